@@ -1,0 +1,153 @@
+// The commands of a script, and how a line is read into one.
+ghost use mathlib.Core.Path.{_≡_};
+ghost use Rattle.std.specs.Options.{mapped};
+ghost use Rattle.script.specs.Commands.{said, ends-before, decimal-at, hexadecimal-at, kind-of, most, memory-of, word-of, scan-of, keyword-of, command-of, reading};
+ghost use Rattle.script.specs.Outcomes.{Gives};
+use crate::lines::command_part;
+use crate::lines::line_text;
+use crate::lines::spells;
+use crate::lines::word;
+use crate::numbers::bytes;
+use crate::numbers::decimal;
+use crate::numbers::hexadecimal;
+use crate::outcomes::Unread;
+use std::alloc::Global;
+
+// What a supplied list is made of.
+#[derive(Clone, Copy, Debug, PartialEq, Eq)]
+pub enum ListKind {
+    Words,
+    Bytes,
+}
+
+impl ListKind {
+    // The longest list of this kind that a script may supply.
+    pub fn longest(self) -> u64
+        ensures { λ r. ⌜ r ≡ most self ⌝ }
+    {
+        match self {
+            ListKind::Words => 1_048_576,
+            ListKind::Bytes => 8_388_608,
+        }
+    }
+}
+
+#[derive(Debug, Drop)]
+pub enum Command {
+    Memory { kind: ListKind, size: u64 },
+    Word { frame: u64, index: u64, value: u64 },
+    Scan { bytes: Vec<u8> },
+}
+
+// The first word of a line.
+#[derive(Clone, Copy)]
+pub enum Keyword {
+    Memory,
+    Word,
+    Scan,
+}
+
+fn keyword_named(name: &[u8]) -> Option<Keyword>
+    ensures { λ r. ⌜ r ≡ keyword-of (now (name .entry)) ⌝ }
+{
+    if spells(name, b"memory") {
+        return Some(Keyword::Memory);
+    }
+    if spells(name, b"word") {
+        return Some(Keyword::Word);
+    }
+    if spells(name, b"scan") {
+        return Some(Keyword::Scan);
+    }
+    None
+}
+
+fn kind_named(name: &[u8]) -> Option<ListKind>
+    ensures { λ r. ⌜ r ≡ kind-of (now (name .entry)) ⌝ }
+{
+    if spells(name, b"words") {
+        return Some(ListKind::Words);
+    }
+    if spells(name, b"bytes") {
+        return Some(ListKind::Bytes);
+    }
+    None
+}
+
+// Whether the text has no word at the place, and so none behind it.
+fn ends(text: &[u8], place: usize) -> bool
+    ensures { λ r. ⌜ r ≡ ends-before (now (text .entry)) place ⌝ }
+{
+    word(text, place).is_empty()
+}
+
+fn decimal_word(text: &[u8], place: usize) -> Option<u64>
+    ensures { λ r. ⌜ r ≡ decimal-at (now (text .entry)) place ⌝ }
+{
+    decimal(word(text, place))
+}
+
+fn hexadecimal_word(text: &[u8], place: usize) -> Option<u64>
+    ensures { λ r. ⌜ r ≡ hexadecimal-at (now (text .entry)) place ⌝ }
+{
+    hexadecimal(word(text, place))
+}
+
+// memory words N, memory bytes N
+fn memory_command(text: &[u8]) -> Option<Command>
+    ensures { λ r. ⌜ mapped said r ≡ memory-of (now (text .entry)) ⌝ }
+{
+    let kind = kind_named(word(text, 1))?;
+    let size = decimal_word(text, 2)?;
+    if size <= kind.longest() && ends(text, 3) {
+        return Some(Command::Memory { kind, size });
+    }
+    None
+}
+
+// word FRAME INDEX WORD
+fn word_command(text: &[u8]) -> Option<Command>
+    ensures { λ r. ⌜ mapped said r ≡ word-of (now (text .entry)) ⌝ }
+{
+    let frame = decimal_word(text, 1)?;
+    let index = decimal_word(text, 2)?;
+    let value = hexadecimal_word(text, 3)?;
+    if ends(text, 4) {
+        return Some(Command::Word { frame, index, value });
+    }
+    None
+}
+
+// scan BYTES
+fn scan_command(heap: Global, text: &[u8]) -> Result<Command, Unread>
+    ensures { λ r. ⌜ Gives said r (scan-of (now (text .entry))) ⌝ }
+{
+    let bytes = bytes(heap, word(text, 1))?;
+    if ends(text, 2) {
+        return Ok(Command::Scan { bytes });
+    }
+    Err(Unread::Unreadable)
+}
+
+fn any_command(heap: Global, text: &[u8]) -> Result<Command, Unread>
+    ensures { λ r. ⌜ Gives said r (command-of (now (text .entry))) ⌝ }
+{
+    match keyword_named(word(text, 0)) {
+        Some(Keyword::Memory) => memory_command(text).ok_or(Unread::Unreadable),
+        Some(Keyword::Word) => word_command(text).ok_or(Unread::Unreadable),
+        Some(Keyword::Scan) => scan_command(heap, text),
+        None => Err(Unread::Unreadable),
+    }
+}
+
+// Reads a line, with or without its line end. A line that holds no word before its comment asks for nothing.
+pub fn read(heap: Global, line: &[u8]) -> Result<Option<Command>, Unread>
+    ensures { λ r. ⌜ Gives (mapped said) r (reading (now (line .entry))) ⌝ }
+{
+    let text = command_part(line_text(line));
+    if ends(text, 0) {
+        return Ok(None);
+    }
+    let command = any_command(heap, text)?;
+    Ok(Some(command))
+}
