@@ -1,2 +1,4 @@
 mod Pairing
+mod Printing
 mod Reading
+mod Zeros

@@ -3,7 +3,7 @@
 --   line-text       a line without its line end
 --   command-part    what stands before a line's comment
 --   word-at         a word of a text by its place, from 0 on; empty where there are fewer words
---   trimmed         a text without the blanks at its two ends
+--   shown-text      a line as it is shown where it cannot be read
 use mathlib.Core.Bool.{Bool, cond, not, _&&_, _||_}
 use mathlib.Core.List.{List, [], _∷_}
 use Prim.Native.Nat.{ℕ, zero, suc, _-_}
@@ -59,3 +59,7 @@ word-at t n = first-word (after-words n t)
 -- a text without the blanks at its two ends
 abbrev pub trimmed : List ℕ → List ℕ
 trimmed t = take (length (unindented t) - ending blank (unindented t)) (unindented t)
+
+-- a line as it is shown where it cannot be read: comment and all, without its line end and the blanks at its two ends
+unfoldable pub shown-text : List ℕ → List ℕ
+shown-text l = trimmed (line-text l)

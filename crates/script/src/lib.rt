@@ -3,3 +3,7 @@ pub mod commands;
 pub mod lines;
 pub mod numbers;
 pub mod outcomes;
+pub mod replies;
+pub mod session;
+pub mod supplied;
+pub mod texts;

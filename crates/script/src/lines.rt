@@ -4,7 +4,7 @@ ghost use Prim.Native.Nat.{_≤_};
 ghost use lib.ListN.{length};
 ghost use Rattle.std.specs.shelf.Lists.{leading, ending};
 ghost use Rattle.std.specs.shelf.Text.{sameBytes};
-ghost use Rattle.script.specs.Lines.{blank, belongs, chopped, line-text, command-part, unindented, first-word, after-word, word-at, trimmed};
+ghost use Rattle.script.specs.Lines.{blank, belongs, chopped, line-text, command-part, unindented, first-word, after-word, word-at, trimmed, shown-text};
 
 // A run of bytes at the front of a text: blanks, the bytes of a word, or all that stands before a comment.
 #[derive(Clone, Copy)]
@@ -112,11 +112,18 @@ pub fn word<'a>(text: &'a [u8], place: usize) -> &'a [u8]
 }
 
 // The text without the blanks at its two ends.
-pub fn trimmed<'a>(text: &'a [u8]) -> &'a [u8]
+fn trimmed<'a>(text: &'a [u8]) -> &'a [u8]
     ensures { λ r. ⌜ now r ≡ trimmed (now (text .entry)) ⌝ }
 {
     let rest = without_indent(text);
     &rest[0..rest.len() - blanks_at_end(rest)]
+}
+
+// The line as it is shown: without its line end, and without the blanks at its two ends.
+pub fn shown_text<'a>(line: &'a [u8]) -> &'a [u8]
+    ensures { λ r. ⌜ now r ≡ shown-text (now (line .entry)) ⌝ }
+{
+    trimmed(line_text(line))
 }
 
 // Whether a word is spelled like a name.

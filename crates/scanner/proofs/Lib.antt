@@ -1,0 +1,3 @@
+pub mod Cleans
+pub mod Means
+pub mod Runs

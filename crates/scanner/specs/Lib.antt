@@ -1,0 +1,3 @@
+pub mod Rule
+pub mod Classes
+pub mod States
