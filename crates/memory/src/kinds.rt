@@ -23,6 +23,7 @@ pub struct Bytes<'a> {
 }
 
 impl<'a> Words<'a> {
+    // Shows the lent list. By the name of the loan the lender learns what was written.
     pub fn new(list: &'a mut [u64]) -> Self
         ensures same { λ r. ⌜ now (r .list) ≡ now (list .entry) ⌝ }
         ensures lender { λ r. ⌜ name (r .list) ≡ name (list .entry) ⌝ }
@@ -32,6 +33,7 @@ impl<'a> Words<'a> {
 }
 
 impl<'a> Bytes<'a> {
+    // Shows the lent list. By the name of the loan the lender learns what was written.
     pub fn new(list: &'a mut [u8]) -> Self
         ensures same { λ r. ⌜ now (r .list) ≡ now (list .entry) ⌝ }
         ensures lender { λ r. ⌜ name (r .list) ≡ name (list .entry) ⌝ }

@@ -7,14 +7,18 @@ ghost use mathlib.Core.List.{List};
 ghost use mathlib.Core.Path.{_≡_};
 ghost use Rattle.memory.specs.Memories.{Lawful, word-at};
 
+// A frame is 4,096 bytes.
 pub const FRAME_WORDS: u64 = 512;
 
+// What lies behind so many frames of a list is not shown.
 pub const MOST_FRAMES: u64 = 256;
 
 // Some whole frames of words, whose count never changes.
 pub trait Memory {
+    // Its words, in the order of their indices.
     ghost words: { Self → List ℕ };
 
+    // Its count of frames.
     ghost size: { Self → ℕ };
 
     ghost laws: { Lawful words size };

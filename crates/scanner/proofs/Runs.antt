@@ -3,7 +3,8 @@
 use Prim.Native.Nat.{ℕ, _+_, _<_, _≤_}
 use Rattle.scanner.proofs.Means.{fed}
 use Rattle.scanner.specs.Classes.{class-of}
-use Rattle.scanner.specs.Rule.{bytes-of, bytes-of-words}
+use Rattle.memory.specs.ByteOrder.{bytes-of}
+use Rattle.scanner.specs.Rule.{bytes-of-words}
 use Rattle.scanner.specs.States.{Fed, step, feed-all}
 use Rattle.scanner.specs.declared.scan.State.{State}
 use Rattle.std.proofs.shelf.Lists.{drop-all, drop-more}

@@ -1,7 +1,8 @@
 -- The rule for code that cannot change the processor's protection, with no scanner in it.
 -- Names: `lead`, `group`, `writes`, `within`, `loads` (bytes); `after-group`, `after-lead`, `passing` (runs of bytes);
--- `Outside`, `None-loads`, `Clean` (the rule place by place); `bytes-of`, `bytes-of-words` (words as bytes).
-use Prim.Native.Nat.{ℕ, suc, _/_, _%_, _≤_}
+-- `Outside`, `None-loads`, `Clean` (the rule place by place); `bytes-of-words` (words as bytes).
+use Prim.Native.Nat.{ℕ, suc, _≤_}
+use Rattle.memory.specs.ByteOrder.{bytes-of}
 use Rattle.std.specs.Joined.{joined}
 use lib.Dec.{eqb, leb}
 use lib.ListN.{length, getD}
@@ -64,19 +65,6 @@ pub record Clean (bs : List ℕ) : Type 0 where
   -- the last two bytes are not 0F 01
   pub end01 : (k : ℕ) → suc (suc k) ≡ length bs → getD bs k 0 ≡ 15 → getD bs (suc k) 0 ≢ 1
 
--- the eight bytes of a word, the low byte first
-abbrev pub bytes-of : ℕ → List ℕ
-bytes-of w =
-    w % 256 ∷
-    w / 256 % 256 ∷
-    w / 65536 % 256 ∷
-    w / 16777216 % 256 ∷
-    w / 4294967296 % 256 ∷
-    w / 1099511627776 % 256 ∷
-    w / 281474976710656 % 256 ∷
-    w / 72057594037927936 % 256 ∷
-    []
-
--- the bytes of words, word after word
+-- the bytes of words, word after word, the low byte of each first
 unfoldable pub bytes-of-words : List ℕ → List ℕ
 bytes-of-words ws = joined bytes-of ws

@@ -1,4 +1,1 @@
-mod Pairing
-mod Printing
-mod Reading
 mod Zeros

@@ -20,8 +20,8 @@ use Rattle.script.specs.declared.commands.Keyword.{Keyword}
 use Rattle.script.specs.declared.commands.Keyword.the-variants as keyword
 use Rattle.script.specs.declared.commands.ListKind.{ListKind}
 use Rattle.script.specs.declared.commands.ListKind.the-variants.{Words, Bytes}
-use Rattle.script.specs.Lines.{line-text, command-part, word-at}
-use Rattle.script.specs.Numbers.{number-of, bytes-of}
+use Rattle.text.specs.Lines.{line-text, command-part, word-at}
+use Rattle.text.specs.Numbers.{number-of, bytes-of}
 
 pub data Said : Type 0 where
   memory : ListKind → ℕ → Said

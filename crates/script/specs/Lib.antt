@@ -1,8 +1,4 @@
-pub mod Numbers
-pub mod Lines
-pub mod Outcomes
 pub mod Commands
-pub mod Texts
 pub mod Supplies
 pub mod Sessions
 pub mod Replies

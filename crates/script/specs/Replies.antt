@@ -20,9 +20,9 @@ use Rattle.script.specs.declared.commands.ListKind.the-variants.{Words, Bytes}
 use Rattle.script.specs.declared.session.Answer.{Answer}
 use Rattle.script.specs.declared.session.Answer.the-variants.{Frames, Done, Passes, Fails}
 use Rattle.script.specs.Commands.{Said, memory, word, scan, reading}
-use Rattle.script.specs.Lines.{shown-text}
+use Rattle.text.specs.Lines.{shown-text}
 use Rattle.script.specs.Sessions.{answer-of, held-after}
-use Rattle.script.specs.Texts.{hexadecimal, hex-bytes}
+use Rattle.text.specs.Texts.{hexadecimal, hex-bytes}
 
 abbrev pub kind-name : ListKind → List ℕ
 kind-name Words = codes "words"

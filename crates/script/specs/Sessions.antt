@@ -16,12 +16,12 @@ use Rattle.std.specs.declared.result.Result.{Result}
 use Rattle.std.specs.Options.{mapped}
 use Rattle.std.specs.Results.{isOk}
 use Rattle.scanner.specs.Rule.{passing}
-use Rattle.script.specs.declared.outcomes.Unread.{Unread}
+use Rattle.text.specs.declared.outcomes.Unread.{Unread}
 use Rattle.script.specs.declared.session.Answer.{Answer}
 use Rattle.script.specs.declared.session.Answer.the-variants.{Frames, Done, Passes, Fails}
 use Rattle.script.specs.declared.session.Session.{Session}
 use Rattle.script.specs.Commands.{Said, memory, word, scan}
-use Rattle.script.specs.Outcomes.{Gives}
+use Rattle.text.specs.Outcomes.{Gives}
 use Rattle.script.specs.Supplies.{supplied-words, frames-for}
 
 abbrev pub held : Session → Option (List ℕ)

@@ -31,9 +31,10 @@ frames-for kind.Bytes n = min (n / 4096) 256
 pub supplied-laws : Lawful supplied-words supplied-size
 supplied-laws = record { whole = whole; few = few }
   where
-  whole : (s : Supplied) → length (supplied-words s) ≡ 512 * supplied-size s
-  whole (Words list) = shown-laws (λ (l : List ℕ). l) .whole (vec-items list)
-  whole (Bytes list) = bytes-laws (λ (l : List ℕ). l) .whole (vec-items list)
-  few : (s : Supplied) → supplied-size s ≤ 256
-  few (Words list) = shown-laws (λ (l : List ℕ). l) .few (vec-items list)
-  few (Bytes list) = bytes-laws (λ (l : List ℕ). l) .few (vec-items list)
+    whole : (s : Supplied) → length (supplied-words s) ≡ 512 * supplied-size s
+    whole (Words list) = shown-laws (λ (l : List ℕ). l) .whole (vec-items list)
+    whole (Bytes list) = bytes-laws (λ (l : List ℕ). l) .whole (vec-items list)
+
+    few : (s : Supplied) → supplied-size s ≤ 256
+    few (Words list) = shown-laws (λ (l : List ℕ). l) .few (vec-items list)
+    few (Bytes list) = bytes-laws (λ (l : List ℕ). l) .few (vec-items list)

@@ -2,16 +2,17 @@
 ghost use mathlib.Core.Path.{_≡_};
 ghost use Rattle.std.specs.Options.{mapped};
 ghost use Rattle.script.specs.Commands.{said, ends-before, decimal-at, hexadecimal-at, kind-of, most, memory-of, word-of, scan-of, keyword-of, command-of, reading};
-ghost use Rattle.script.specs.Outcomes.{Gives};
-use crate::lines::command_part;
-use crate::lines::line_text;
-use crate::lines::spells;
-use crate::lines::word;
-use crate::numbers::bytes;
-use crate::numbers::decimal;
-use crate::numbers::hexadecimal;
-use crate::outcomes::Unread;
+ghost use Rattle.text.specs.Lines.{word-at};
+ghost use Rattle.text.specs.Outcomes.{Gives};
 use std::alloc::Global;
+use text::lines::command_part;
+use text::lines::is_word;
+use text::lines::line_text;
+use text::lines::word;
+use text::numbers::bytes;
+use text::numbers::decimal;
+use text::numbers::hexadecimal;
+use text::outcomes::Unread;
 
 // What a supplied list is made of.
 #[derive(Clone, Copy, Debug, PartialEq, Eq)]
@@ -47,28 +48,28 @@ pub enum Keyword {
     Scan,
 }
 
-fn keyword_named(name: &[u8]) -> Option<Keyword>
-    ensures { λ r. ⌜ r ≡ keyword-of (now (name .entry)) ⌝ }
+fn first_word(text: &[u8]) -> Option<Keyword>
+    ensures { λ r. ⌜ r ≡ keyword-of (word-at (now (text .entry)) 0) ⌝ }
 {
-    if spells(name, b"memory") {
+    if is_word(text, 0, b"memory") {
         return Some(Keyword::Memory);
     }
-    if spells(name, b"word") {
+    if is_word(text, 0, b"word") {
         return Some(Keyword::Word);
     }
-    if spells(name, b"scan") {
+    if is_word(text, 0, b"scan") {
         return Some(Keyword::Scan);
     }
     None
 }
 
-fn kind_named(name: &[u8]) -> Option<ListKind>
-    ensures { λ r. ⌜ r ≡ kind-of (now (name .entry)) ⌝ }
+fn kind_word(text: &[u8]) -> Option<ListKind>
+    ensures { λ r. ⌜ r ≡ kind-of (word-at (now (text .entry)) 1) ⌝ }
 {
-    if spells(name, b"words") {
+    if is_word(text, 1, b"words") {
         return Some(ListKind::Words);
     }
-    if spells(name, b"bytes") {
+    if is_word(text, 1, b"bytes") {
         return Some(ListKind::Bytes);
     }
     None
@@ -97,7 +98,7 @@ fn hexadecimal_word(text: &[u8], place: usize) -> Option<u64>
 fn memory_command(text: &[u8]) -> Option<Command>
     ensures { λ r. ⌜ mapped said r ≡ memory-of (now (text .entry)) ⌝ }
 {
-    let kind = kind_named(word(text, 1))?;
+    let kind = kind_word(text)?;
     let size = decimal_word(text, 2)?;
     if size <= kind.longest() && ends(text, 3) {
         return Some(Command::Memory { kind, size });
@@ -113,7 +114,11 @@ fn word_command(text: &[u8]) -> Option<Command>
     let index = decimal_word(text, 2)?;
     let value = hexadecimal_word(text, 3)?;
     if ends(text, 4) {
-        return Some(Command::Word { frame, index, value });
+        return Some(Command::Word {
+            frame,
+            index,
+            value,
+        });
     }
     None
 }
@@ -132,7 +137,7 @@ fn scan_command(heap: Global, text: &[u8]) -> Result<Command, Unread>
 fn any_command(heap: Global, text: &[u8]) -> Result<Command, Unread>
     ensures { λ r. ⌜ Gives said r (command-of (now (text .entry))) ⌝ }
 {
-    match keyword_named(word(text, 0)) {
+    match first_word(text) {
         Some(Keyword::Memory) => memory_command(text).ok_or(Unread::Unreadable),
         Some(Keyword::Word) => word_command(text).ok_or(Unread::Unreadable),
         Some(Keyword::Scan) => scan_command(heap, text),

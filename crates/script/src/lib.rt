@@ -1,9 +1,7 @@
-// Reads console scripts and carries them out.
+// Reads console scripts and carries them out, line by line.
 pub mod commands;
-pub mod lines;
-pub mod numbers;
-pub mod outcomes;
 pub mod replies;
 pub mod session;
 pub mod supplied;
-pub mod texts;
+#[cfg(test)]
+mod tests;

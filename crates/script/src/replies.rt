@@ -7,20 +7,20 @@ ghost use Rattle.std.specs.Vec.{made};
 ghost use Rattle.script.specs.Commands.{said};
 ghost use Rattle.script.specs.Replies.{kind-name, echo, answer-text, line-at, cannot-read, line-feed, Replied};
 ghost use Rattle.script.specs.Sessions.{held};
-ghost use Rattle.script.specs.Texts.{Puts};
+ghost use Rattle.text.specs.Texts.{Puts};
 use crate::commands::Command;
 use crate::commands::ListKind;
 use crate::commands::read;
-use crate::lines::shown_text;
-use crate::outcomes::Unread;
 use crate::session::Answer;
 use crate::session::Session;
-use crate::texts::put;
-use crate::texts::put_bytes;
-use crate::texts::put_decimal;
-use crate::texts::put_hexadecimal;
 use std::alloc::AllocError;
 use std::alloc::Global;
+use text::lines::shown_text;
+use text::outcomes::Unread;
+use text::printing::put;
+use text::printing::put_bytes;
+use text::printing::put_decimal;
+use text::printing::put_hexadecimal;
 
 fn put_kind(out: &mut Vec<u8>, kind: ListKind) -> Result<(), AllocError>
     ensures { λ r. ⌜ Puts r (vec-items (now (out .entry))) (kind-name kind) (vec-items (now (out .exit))) ⌝ }
@@ -41,7 +41,11 @@ fn put_command(heap: Global, out: &mut Vec<u8>, command: &Command) -> Result<(),
             put(out, b" ")?;
             put_decimal(heap, out, *size)
         }
-        Command::Word { frame, index, value } => {
+        Command::Word {
+            frame,
+            index,
+            value,
+        } => {
             put(out, b"word ")?;
             put_decimal(heap, out, *frame)?;
             put(out, b" ")?;
@@ -70,7 +74,12 @@ fn put_answer(heap: Global, out: &mut Vec<u8>, answer: Answer) -> Result<(), All
     }
 }
 
-fn put_answered(heap: Global, out: &mut Vec<u8>, command: &Command, answer: Answer) -> Result<(), AllocError>
+fn put_answered(
+    heap: Global,
+    out: &mut Vec<u8>,
+    command: &Command,
+    answer: Answer,
+) -> Result<(), AllocError>
     ensures { λ r. ⌜ Puts r (vec-items (now (out .entry))) (echo (said (now (command .entry))) ++ (codes ": " ++ (answer-text answer ++ line-feed))) (vec-items (now (out .exit))) ⌝ }
 {
     put_command(heap, out, command)?;
@@ -86,7 +95,12 @@ fn put_place(heap: Global, out: &mut Vec<u8>, number: u64) -> Result<(), AllocEr
     put_decimal(heap, out, number)
 }
 
-fn put_unreadable(heap: Global, out: &mut Vec<u8>, number: u64, line: &[u8]) -> Result<(), AllocError>
+fn put_unreadable(
+    heap: Global,
+    out: &mut Vec<u8>,
+    number: u64,
+    line: &[u8],
+) -> Result<(), AllocError>
     ensures { λ r. ⌜ Puts r (vec-items (now (out .entry))) (cannot-read number (now (line .entry))) (vec-items (now (out .exit))) ⌝ }
 {
     put_place(heap, out, number)?;
@@ -97,7 +111,13 @@ fn put_unreadable(heap: Global, out: &mut Vec<u8>, number: u64, line: &[u8]) -> 
 
 impl Session {
     // Reads a line, carries it out, and puts what is printed for it behind what `out` holds.
-    pub fn line(&mut self, heap: Global, number: u64, line: &[u8], out: &mut Vec<u8>) -> Result<(), AllocError>
+    pub fn line(
+        &mut self,
+        heap: Global,
+        number: u64,
+        line: &[u8],
+        out: &mut Vec<u8>,
+    ) -> Result<(), AllocError>
         ensures { λ r. ⌜ made r (λ _. Replied number (now (line .entry)) (held (now (self .entry))) (held (now (self .exit))) (vec-items (now (out .entry))) (vec-items (now (out .exit)))) ⌝ }
     {
         match read(heap, line) {

@@ -1,7 +1,8 @@
 // Runs of words, which hold eight bytes each.
 
 use crate::scan::Scanner;
-ghost use Rattle.scanner.specs.Rule.{passing, Clean, bytes-of, bytes-of-words};
+ghost use Rattle.memory.specs.ByteOrder.{bytes-of};
+ghost use Rattle.scanner.specs.Rule.{passing, Clean, bytes-of-words};
 ghost use Rattle.scanner.specs.States.{Fed};
 ghost use Rattle.std.specs.Orderings.{Decides};
 ghost use mathlib.Core.Path.{_≡_};

@@ -2,9 +2,9 @@ use mathlib.Core.Path.{ap, _∙_}
 use mathlib.Core.List.{_++_}
 use lib.Chars.{codes}
 use Rattle.std.specs.Of.Vec.{vec-items}
-use Rattle.script.specs.Lines.{shown-text}
+use Rattle.text.specs.Lines.{shown-text}
 use Rattle.script.specs.Replies.{line-at, line-feed}
-use Rattle.script.proofs.Printing.{puts-behind}
+use Rattle.text.proofs.Behind.{puts-behind}
 use Rattle.script.proofs.replies.put_unreadable.Needs as need
 
 pub returns : need.returns

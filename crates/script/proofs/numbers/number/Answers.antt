@@ -1,9 +1,0 @@
-use borrow.Author.Needs.{needs}
-use Rattle.script.proofs.Reading.{number-means}
-use Rattle.script.proofs.numbers.number.Needs as need
-
-pub returns : need.returns
-returns c = search (needs, number-means)
-
-pub returns-then-is-empty : need.returns-then-is-empty
-returns-then-is-empty c = search (needs, number-means)

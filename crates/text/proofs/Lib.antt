@@ -1,0 +1,3 @@
+mod Pairing
+pub mod Behind
+mod Reading

@@ -1,0 +1,16 @@
+-- What comes of reading a line.
+--
+--   Gives           that a call answered with the value that there is, or said that there is none
+use mathlib.Core.Path.{_≡_}
+use Rattle.std.specs.declared.option.Option.{Option}
+use Rattle.std.specs.declared.option.Option.the-variants.{Some, None}
+use Rattle.std.specs.declared.result.Result.{Result}
+use Rattle.std.specs.declared.result.Result.the-variants.{Ok, Err}
+use Rattle.text.specs.declared.outcomes.Unread.{Unread}
+use Rattle.text.specs.declared.outcomes.Unread.the-variants.{Unreadable, Memory}
+
+-- `Ok` where there is a value, which f shows of the answer; `Unreadable` where there is none; a want of memory tells nothing
+abbrev pub Gives : {A B : Type 0} → (A → B) → Result A Unread → Option B → Type 0
+Gives f (Ok a) o = o ≡ Some (f a)
+Gives f (Err Unreadable) o = o ≡ None
+Gives f (Err Memory) o = Unit {0}

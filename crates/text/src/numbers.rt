@@ -1,0 +1,115 @@
+// Numbers as scripts write them: digits alone, read at full width or not at all.
+ghost use mathlib.Core.Bool.{cond, _&&_};
+ghost use mathlib.Core.Path.{_≡_};
+ghost use Prim.Native.Nat.{_+_, _*_, _≤_};
+ghost use lib.Dec.{ltb};
+ghost use Rattle.std.specs.declared.option.Option.the-variants.{Some, None};
+ghost use Rattle.std.specs.Of.Vec.{vec-items};
+ghost use Rattle.std.specs.Numbers.{Checked};
+ghost use Rattle.std.specs.Reads.{value};
+ghost use Rattle.std.specs.Text.{digitValue};
+ghost use Rattle.text.specs.Numbers.{digit-of, reads-on, number-of, Number, pairs-of, bytes-of};
+ghost use Rattle.text.specs.Outcomes.{Gives};
+use crate::lines::spells;
+use crate::outcomes::Unread;
+use crate::outcomes::UnreadFromAlloc;
+use crate::outcomes::UnreadFromRefused;
+use std::alloc::Global;
+
+// The value of a digit in either case, and 36 for a byte that is no digit in any radix.
+fn digit_value(byte: u8) -> u8
+    ensures { λ r. ⌜ r ≡ digitValue byte ⌝ }
+{
+    match byte {
+        b'0'..=b'9' => byte - b'0',
+        b'A'..=b'Z' => byte - b'A' + 10,
+        b'a'..=b'z' => byte - b'a' + 10,
+        _ => 36,
+    }
+}
+
+fn digit(radix: u64, byte: u8) -> Option<u64>
+    ensures { λ r. ⌜ r ≡ digit-of radix byte ⌝ }
+{
+    let value = u64::from(digit_value(byte));
+    if value < radix { Some(value) } else { None }
+}
+
+// The number that the digits write, or nothing where one is no digit or the number is 2^64 or more.
+fn total(radix: u64, digits: &[u8]) -> Option<u64>
+    requires { ⌜ 1 ≤ radix ⌝ }
+    ensures { λ r. ⌜ r ≡ reads-on radix 0 (now (digits .entry)) ⌝ }
+{
+    let mut total: u64 = 0;
+    for byte in digits {
+        let value = digit(radix, *byte)?;
+        total = total.checked_mul(radix)?.checked_add(value)?;
+    }
+    Some(total)
+}
+
+fn number(radix: u64, word: &[u8]) -> Option<u64>
+    requires { ⌜ 1 ≤ radix ⌝ }
+    ensures value { λ r. ⌜ r ≡ number-of radix (now (word .entry)) ⌝ }
+    ensures means { λ r. ⌜ Checked r (Number radix (now (word .entry))) (value radix (now (word .entry))) ⌝ }
+{
+    if word.is_empty() {
+        return None;
+    }
+    total(radix, word)
+}
+
+pub fn decimal(word: &[u8]) -> Option<u64>
+    ensures value { λ r. ⌜ r ≡ number-of 10 (now (word .entry)) ⌝ }
+    ensures means { λ r. ⌜ Checked r (Number 10 (now (word .entry))) (value 10 (now (word .entry))) ⌝ }
+{
+    number(10, word)
+}
+
+pub fn hexadecimal(word: &[u8]) -> Option<u64>
+    ensures value { λ r. ⌜ r ≡ number-of 16 (now (word .entry)) ⌝ }
+    ensures means { λ r. ⌜ Checked r (Number 16 (now (word .entry))) (value 16 (now (word .entry))) ⌝ }
+{
+    number(16, word)
+}
+
+// The byte that two hexadecimal digits write.
+fn pair(high: u8, low: u8) -> Option<u8>
+    ensures { λ r. ⌜ r ≡ cond (ltb (digitValue high) 16 && ltb (digitValue low) 16) (Some (digitValue high * 16 + digitValue low)) None ⌝ }
+{
+    let high = digit_value(high);
+    let low = digit_value(low);
+    if high < 16 && low < 16 {
+        return Some(high * 16 + low);
+    }
+    None
+}
+
+fn pairs(heap: Global, digits: &[u8]) -> Result<Vec<u8>, Unread>
+    ensures { λ r. ⌜ Gives vec-items r (pairs-of (now (digits .entry))) ⌝ }
+{
+    if digits.len() % 2 != 0 {
+        return Err(Unread::Unreadable);
+    }
+    let mut out = Vec::new(heap);
+    for i in 0..digits.len() / 2 {
+        let Some(byte) = pair(digits[2 * i], digits[2 * i + 1]) else {
+            return Err(Unread::Unreadable);
+        };
+        out.push(byte)?;
+    }
+    Ok(out)
+}
+
+// The bytes that a word writes, the one at the lowest address first. `-` writes none.
+pub fn bytes(heap: Global, word: &[u8]) -> Result<Vec<u8>, Unread>
+    ensures { λ r. ⌜ Gives vec-items r (bytes-of (now (word .entry))) ⌝ }
+{
+    if spells(word, b"-") {
+        return Ok(Vec::new(heap));
+    }
+    if word.is_empty() {
+        return Err(Unread::Unreadable);
+    }
+    pairs(heap, word)
+}

@@ -1,0 +1,85 @@
+// Texts behind what a list of bytes holds.
+ghost use mathlib.Core.List.{[], _∷_};
+ghost use mathlib.Core.Path.{_≡_};
+ghost use Prim.Native.Nat.{_<_};
+ghost use Rattle.std.specs.Joined.{joined};
+ghost use Rattle.std.specs.Of.Vec.{vec-items};
+ghost use Rattle.std.specs.Written.{decimal};
+ghost use Rattle.text.specs.Texts.{hex-digit, hexadecimal, two-digits, hex-bytes, Puts};
+use std::alloc::AllocError;
+use std::alloc::Global;
+
+pub fn put(out: &mut Vec<u8>, text: &[u8]) -> Result<(), AllocError>
+    ensures { λ r. ⌜ Puts r (vec-items (now (out .entry))) (now (text .entry)) (vec-items (now (out .exit))) ⌝ }
+{
+    out.extend_from_slice(text)
+}
+
+pub fn put_decimal(heap: Global, out: &mut Vec<u8>, number: u64) -> Result<(), AllocError>
+    ensures { λ r. ⌜ Puts r (vec-items (now (out .entry))) (decimal number) (vec-items (now (out .exit))) ⌝ }
+{
+    let text = number.to_string(heap)?;
+    out.extend_from_slice(text.as_bytes())
+}
+
+// The character of a hexadecimal digit.
+fn digit(value: u64) -> u8
+    requires { ⌜ value < 16 ⌝ }
+    ensures { λ r. ⌜ r ≡ hex-digit value ⌝ }
+{
+    if value < 10 {
+        b'0' + value as u8
+    } else {
+        b'A' - 10 + value as u8
+    }
+}
+
+fn put_digit(out: &mut Vec<u8>, value: u64) -> Result<(), AllocError>
+    requires { ⌜ value < 16 ⌝ }
+    ensures { λ r. ⌜ Puts r (vec-items (now (out .entry))) (hex-digit value ∷ []) (vec-items (now (out .exit))) ⌝ }
+{
+    out.push(digit(value))?;
+    Ok(())
+}
+
+// The digits of the number, the last one behind those of a sixteenth of it.
+fn put_digits(out: &mut Vec<u8>, number: u64) -> Result<(), AllocError>
+    ensures { λ r. ⌜ Puts r (vec-items (now (out .entry))) (hexadecimal number) (vec-items (now (out .exit))) ⌝ }
+{
+    if number < 16 {
+        return put_digit(out, number);
+    }
+    put_digits(out, number / 16)?;
+    put_digit(out, number % 16)
+}
+
+pub fn put_hexadecimal(out: &mut Vec<u8>, number: u64) -> Result<(), AllocError>
+    ensures { λ r. ⌜ Puts r (vec-items (now (out .entry))) (hexadecimal number) (vec-items (now (out .exit))) ⌝ }
+{
+    put_digits(out, number)
+}
+
+fn put_two_digits(out: &mut Vec<u8>, byte: u8) -> Result<(), AllocError>
+    ensures { λ r. ⌜ Puts r (vec-items (now (out .entry))) (two-digits byte) (vec-items (now (out .exit))) ⌝ }
+{
+    put_digit(out, u64::from(byte / 16))?;
+    put_digit(out, u64::from(byte % 16))
+}
+
+fn put_pairs(out: &mut Vec<u8>, bytes: &[u8]) -> Result<(), AllocError>
+    ensures { λ r. ⌜ Puts r (vec-items (now (out .entry))) (joined two-digits (now (bytes .entry))) (vec-items (now (out .exit))) ⌝ }
+{
+    for byte in bytes {
+        put_two_digits(out, *byte)?;
+    }
+    Ok(())
+}
+
+pub fn put_bytes(out: &mut Vec<u8>, bytes: &[u8]) -> Result<(), AllocError>
+    ensures { λ r. ⌜ Puts r (vec-items (now (out .entry))) (hex-bytes (now (bytes .entry))) (vec-items (now (out .exit))) ⌝ }
+{
+    if bytes.is_empty() {
+        return put(out, b"-");
+    }
+    put_pairs(out, bytes)
+}
