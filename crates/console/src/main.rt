@@ -29,17 +29,22 @@ fn carry_out<R: Read + Drop>(rt: &LibcRuntime, script: R) -> Result<(), AnyError
     Ok(())
 }
 
+// Says why a script was not carried out to its end.
+fn tell(rt: &LibcRuntime, outcome: Result<(), AnyError>) -> Result<(), AnyError> {
+    if let Err(e) = &outcome {
+        eprintln!(rt, "console: stopped before the end of the script: {e}")?;
+    }
+    outcome
+}
+
 fn main(rt: LibcRuntime) -> Result<(), AnyError> {
     let Some(path) = env::args(&rt)?.nth(1) else {
-        return rt.report(carry_out(&rt, rt.stdin()));
+        return tell(&rt, carry_out(&rt, rt.stdin()));
     };
     match fs::open(&rt, path.as_str()) {
-        Ok(file) => rt.report(carry_out(&rt, file)),
+        Ok(file) => tell(&rt, carry_out(&rt, file)),
         Err(e) => {
-            eprintln!(
-                rt,
-                "console: cannot open {path}: {e}. Name a script that can be read, or none to read standard input."
-            )?;
+            eprintln!(rt, "console: cannot open {path}: {e}. Name a script that can be read, or none to read standard input.")?;
             Err(e.into())
         }
     }

