@@ -44,7 +44,10 @@ fn main(rt: LibcRuntime) -> Result<(), AnyError> {
     match fs::open(&rt, path.as_str()) {
         Ok(file) => tell(&rt, carry_out(&rt, file)),
         Err(e) => {
-            eprintln!(rt, "console: cannot open {path}: {e}. Name a script that can be read, or none to read standard input.")?;
+            eprintln!(
+                rt,
+                "console: cannot open {path}: {e}. Name a script that can be read, or none to read standard input."
+            )?;
             Err(e.into())
         }
     }

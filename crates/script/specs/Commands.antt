@@ -3,7 +3,7 @@
 --   Said, said      what a command says: the command with its bytes as a list
 --   command-of      the command that a text without comment spells
 --   reading         what a whole line comes to
-use mathlib.Core.Bool.{Bool, cond, _&&_}
+use mathlib.Core.Bool.{Bool, cond}
 use mathlib.Core.List.{List}
 use Prim.Native.Nat.{ℕ}
 use lib.Chars.{codes}

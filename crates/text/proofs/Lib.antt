@@ -1,4 +1,5 @@
 pub mod Behind
+mod Finding
 mod Pairing
 mod Reading
 mod ReadingBack

@@ -1,11 +1,10 @@
 -- Digits that were printed are read as the number, and as the bytes, that they were printed for.
-use mathlib.Core.Path.{_≡_, refl, sym, ap, subst, _∙_}
-use mathlib.Core.Bool.{true, cond, _&&_}
-use mathlib.Core.List.{List, [], _∷_, _++_, map}
+use mathlib.Core.Path.{_≡_, refl, sym, ap, _∙_}
+use mathlib.Core.List.{List, [], _∷_, map}
 use mathlib.Core.Logic.{⊎-elim}
 use Prim.Native.Nat.{ℕ, _+_, _*_, _/_, _%_, _^_, _<_}
 use native.Mathlib.Omega.{arith}
-use lib.Dec.{eqb, ltb}
+use lib.Dec.{eqb}
 use lib.ListN.{length}
 use Rattle.std.specs.declared.option.Option.{Option}
 use Rattle.std.specs.declared.option.Option.the-variants.{Some, None}
@@ -53,11 +52,11 @@ hexadecimal-back n small =
     ⊎-elim
     (λ zero. ap (number-of 16) (cond-true _ _ _ (eq-eqb n 0 zero)) ∙ ap Some (sym zero))
     (λ some.
-        let under = under-digitsOf 16 n (omega arith) in
-        let long = length-digitsOf-step 16 n (omega arith) (omega arith) in
-        let same = length-map (digitsOf 16 n) hex-digit in
-        let is = value-is 16 (map hex-digit (digitsOf 16 n)) ∙ ap (number 16) (digits-back (digitsOf 16 n) under) ∙ number-digitsOf 16 n (omega arith) in
-        ap (number-of 16) (cond-false _ _ _ (ne-eqb n 0 some)) ∙ numeral-back 16 n (map hex-digit (digitsOf 16 n)) (omega arith, digits-read (digitsOf 16 n) under) is small)
+    let under = under-digitsOf 16 n (omega arith) in
+    let long = length-digitsOf-step 16 n (omega arith) (omega arith) in
+    let same = length-map (digitsOf 16 n) hex-digit in
+    let is = value-is 16 (map hex-digit (digitsOf 16 n)) ∙ ap (number 16) (digits-back (digitsOf 16 n) under) ∙ number-digitsOf 16 n (omega arith) in
+    ap (number-of 16) (cond-false _ _ _ (ne-eqb n 0 some)) ∙ numeral-back 16 n (map hex-digit (digitsOf 16 n)) (omega arith, digits-read (digitsOf 16 n) under) is small)
     (cases-eq n 0)
 
 pairs-back : (bs : List ℕ) → All (λ b. b < 256) bs → pairs-of (joined two-digits bs) ≡ Some bs

@@ -5,7 +5,7 @@
 --   word-at         a word of a text by its place, from 0 on; empty where there are fewer words
 --   shown-text      a line as it is shown where it cannot be read
 use mathlib.Core.Bool.{Bool, cond, not, _&&_, _||_}
-use mathlib.Core.List.{List, [], _∷_}
+use mathlib.Core.List.{List}
 use Prim.Native.Nat.{ℕ, zero, suc, _-_}
 use lib.Dec.{eqb, ltb}
 use lib.ListN.{length, getD, take, drop}

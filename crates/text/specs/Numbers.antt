@@ -5,7 +5,7 @@
 --   bytes-of        the bytes that a word of hexadecimal digits writes, two digits to a byte
 --
 -- `digitValue`, `Numeral` and `value` are the library's: a digit in either case, one digit or more, what the digits write.
-use mathlib.Core.Bool.{Bool, cond, _&&_}
+use mathlib.Core.Bool.{cond, _&&_}
 use mathlib.Core.List.{List, [], _∷_}
 use Prim.Native.Nat.{ℕ, _+_, _*_, _^_, _<_}
 use lib.Chars.{codes}

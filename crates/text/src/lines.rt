@@ -4,6 +4,7 @@ ghost use Prim.Native.Nat.{_≤_};
 ghost use lib.ListN.{length};
 ghost use Rattle.std.specs.shelf.Lists.{leading, ending};
 ghost use Rattle.std.specs.shelf.Text.{sameBytes};
+ghost use Rattle.text.specs.Layout.{Words-found};
 ghost use Rattle.text.specs.Lines.{blank, belongs, chopped, line-text, command-part, unindented, first-word, after-word, after-words, word-at, trimmed, shown-text};
 
 // A run of bytes at the front of a text: blanks, the bytes of a word, or all that stands before a comment.
@@ -145,4 +146,11 @@ pub fn is_word(text: &[u8], place: usize, name: &[u8]) -> bool
     ensures { λ r. ⌜ r ≡ sameBytes (word-at (now (text .entry)) place) (now (name .entry)) ⌝ }
 {
     spells(word(text, place), name)
+}
+
+// Every text is words set apart by blanks, and `word` finds each of them at its place.
+pub fn words_are_found() -> u8
+    ensures { λ _. ⌜ Words-found ⌝ }
+{
+    0
 }
