@@ -1,4 +1,4 @@
--- A memory as a list of words, 512 for each of its frames, and what a list of words shows as one.
+-- A memory as a list of words in frames of 512, and what a list of words shows as one.
 --
 --   frames-in    how many whole frames a list shows
 --   shown        the words of those frames

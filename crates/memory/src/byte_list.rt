@@ -86,7 +86,7 @@ pub fn write(list: &mut [u8], index: u64, value: u64) -> bool
     true
 }
 
-// Byte order: the low byte of a word has the lowest address.
+// The order of bytes: a word begins with its low byte.
 pub fn byte_order_stands() -> u8
     ensures { λ _. ⌜ Byte-order ⌝ }
 {

@@ -1,7 +1,7 @@
 // A scanner for code that cannot change the processor's protection.
 //
-// A run of bytes passes where no 0F is followed by 22 or 30, no 0F 01 is followed by 18 to 1F, 58 to 5F or 98 to 9F,
-// and the run ends neither in 0F nor in 0F 01.
+// A run of bytes passes where 0F never has 22 or 30 behind it, and 0F 01 never a byte of 18 to 1F, 58 to 5F or 98 to 9F,
+// and where neither 0F nor 0F 01 ends it.
 
 pub mod classes;
 pub mod scan;
