@@ -22,6 +22,7 @@ use Rattle.script.specs.declared.commands.ListKind.{ListKind}
 use Rattle.script.specs.declared.commands.ListKind.the-variants.{Words, Bytes}
 use Rattle.text.specs.Lines.{line-text, command-part, word-at}
 use Rattle.text.specs.Numbers.{number-of, bytes-of}
+use Rattle.text.specs.Outcomes.{then}
 
 pub data Said : Type 0 where
   memory : ListKind → ℕ → Said
@@ -32,11 +33,6 @@ abbrev pub said : Command → Said
 said (command.Memory kind size) = memory kind size
 said (command.Word frame index value) = word frame index value
 said (command.Scan bytes) = scan (vec-items bytes)
-
--- goes on with a value, where there is one
-abbrev pub then : {A B : Type 0} → Option A → (A → Option B) → Option B
-then None f = None
-then (Some a) f = f a
 
 -- that a text has no word at a place, and so none behind it
 abbrev pub ends-before : List ℕ → ℕ → Bool

@@ -33,6 +33,7 @@ impl ListKind {
     }
 }
 
+// What a line asks for.
 #[derive(Debug, Drop)]
 pub enum Command {
     Memory { kind: ListKind, size: u64 },
@@ -42,7 +43,7 @@ pub enum Command {
 
 // The first word of a line.
 #[derive(Clone, Copy)]
-pub enum Keyword {
+enum Keyword {
     Memory,
     Word,
     Scan,

@@ -15,12 +15,14 @@ use memory::word_list;
 use std::alloc::AllocError;
 use std::alloc::Global;
 
+// A list of words or of bytes.
 #[derive(Drop)]
 pub enum Supplied {
     Words(Vec<u64>),
     Bytes(Vec<u8>),
 }
 
+// A list of zero words.
 fn zero_words(heap: Global, size: u64) -> Result<Vec<u64>, AllocError>
     ensures words { λ r. ⌜ made r (λ v. shown (vec-items v) ≡ replicate (512 * frames-for ListKind.Words size) 0) ⌝ }
     ensures length { λ r. ⌜ made r (λ v. length (vec-items v) ≡ size) ⌝ }
@@ -28,6 +30,7 @@ fn zero_words(heap: Global, size: u64) -> Result<Vec<u64>, AllocError>
     vec![in heap; 0; size as usize]
 }
 
+// A list of zero bytes.
 fn zero_bytes(heap: Global, size: u64) -> Result<Vec<u8>, AllocError>
     ensures words { λ r. ⌜ made r (λ v. words-of (vec-items v) ≡ replicate (512 * frames-for ListKind.Bytes size) 0) ⌝ }
     ensures length { λ r. ⌜ made r (λ v. length (vec-items v) ≡ size) ⌝ }
@@ -54,6 +57,7 @@ impl Supplied {
     }
 }
 
+// A write to the memory that a list of words shows.
 fn write_words(list: &mut Vec<u64>, index: u64, value: u64) -> bool
     ensures same { λ _. ⌜ length (vec-items (now (list .exit))) ≡ length (vec-items (now (list .entry))) ⌝ }
     ensures done { λ r. ⌜ r ≡ ltb index (length (shown (vec-items (now (list .entry))))) ⌝ }
@@ -62,6 +66,7 @@ fn write_words(list: &mut Vec<u64>, index: u64, value: u64) -> bool
     word_list::write(list.as_mut_slice(), index, value)
 }
 
+// A write to the memory that a list of bytes shows.
 fn write_bytes(list: &mut Vec<u8>, index: u64, value: u64) -> bool
     ensures same { λ _. ⌜ length (vec-items (now (list .exit))) ≡ length (vec-items (now (list .entry))) ⌝ }
     ensures done { λ r. ⌜ r ≡ ltb index (length (words-of (vec-items (now (list .entry))))) ⌝ }

@@ -1,5 +1,6 @@
 pub mod Behind
 mod Finding
+mod Onward
 mod Pairing
 mod Reading
 mod ReadingBack

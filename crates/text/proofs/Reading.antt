@@ -1,12 +1,10 @@
 -- Digits read one at a time give the number that they write.
 use mathlib.Core.Path.{_≡_, refl, sym, ap, subst, _∙_}
-use mathlib.Core.Bool.{Bool, true, false, cond}
 use mathlib.Core.List.{List, [], _∷_}
 use mathlib.Core.Logic.{⊎-elim}
 use Prim.Native.Nat.{ℕ, _+_, _*_, _^_, _≤_, _<_}
 use native.Mathlib.Nat.{mul-le-mul-left}
 use native.Mathlib.Omega.{arith}
-use lib.Dec.{ltb}
 use lib.ListN.{length, getD, drop}
 use Rattle.std.specs.declared.option.Option.{Option}
 use Rattle.std.specs.declared.option.Option.the-variants.{Some, None}
@@ -16,6 +14,8 @@ use Rattle.std.specs.Text.{digitValue}
 use Rattle.std.proofs.shelf.Lists.{at-drop-more}
 use Rattle.std.proofs.shelf.Tests.{cases-lt, cond-true, cond-false, lt-ltb, le-ltb, ne-eqb}
 use Rattle.text.specs.Numbers.{digit-of, reads-on, number-of, Number}
+use Rattle.text.specs.Outcomes.{then}
+use Rattle.text.proofs.Onward.{then-none}
 
 -- a number grows, or stays, with each digit behind it
 grows : (radix n d : ℕ) → 1 ≤ radix → n ≤ n * radix + d
@@ -24,11 +24,7 @@ grows radix n d h = omega (arith, mul-le-mul-left n h)
 -- a front of 2 ^ 64 or more is refused, whatever follows
 pub too-large : (radix n : ℕ) (cs : List ℕ) → 1 ≤ radix → 2 ^ 64 ≤ n → reads-on radix n cs ≡ None
 too-large radix n [] h big = cond-false _ _ _ (le-ltb n (2 ^ 64) big)
-too-large radix n (c ∷ cs) h big =
-    ⊎-elim
-    (λ lt. cond-true _ _ _ (lt-ltb _ _ lt) ∙ too-large radix (n * radix + digitValue c) cs h (omega (arith, grows radix n (digitValue c) h)))
-    (λ le. cond-false _ _ _ (le-ltb _ _ le))
-    (cases-lt (digitValue c) radix)
+too-large radix n (c ∷ cs) h big = then-none (digit-of radix c) _ (λ d. too-large radix (n * radix + d) cs h (omega (arith, grows radix n d h)))
 
 -- what is read behind n is the number, exactly where there is one
 reads-on-means : (radix n : ℕ) (cs : List ℕ) → Checked (reads-on radix n cs) (Digits radix cs × (valueAfter radix n cs < 2 ^ 64)) (valueAfter radix n cs)
@@ -40,7 +36,7 @@ reads-on-means radix n [] =
     (cases-lt n (2 ^ 64))
 reads-on-means radix n (c ∷ cs) =
     let m : ℕ = n * radix + digitValue c in
-    let P : Option ℕ → Type 0 = λ r. Checked r (((digitValue c < radix) × Digits radix cs) × (valueAfter radix m cs < 2 ^ 64)) (valueAfter radix m cs) in
+    let P : Option ℕ → Type 0 = λ o. Checked (then o (λ d. reads-on radix (n * radix + d) cs)) (((digitValue c < radix) × Digits radix cs) × (valueAfter radix m cs < 2 ^ 64)) (valueAfter radix m cs) in
     ⊎-elim
     (λ lt. subst P (sym (cond-true _ _ _ (lt-ltb _ _ lt))) (also _ _ _ _ lt (reads-on radix m cs) (reads-on-means radix m cs)))
     (λ le. subst P (sym (cond-false _ _ _ (le-ltb _ _ le))) (λ p. omega (arith, p .0 .0)))
@@ -63,21 +59,13 @@ number-of-means radix (c ∷ cs) =
 pub number-means : (radix : ℕ) (w : List ℕ) (r : Option ℕ) → r ≡ number-of radix w → Checked r (Number radix w) (value radix w)
 number-means radix w r e = let P : Option ℕ → Type 0 = λ o. Checked o (Number radix w) (value radix w) in subst P (sym e) (number-of-means radix w)
 
--- one turn of the loop: the byte at i, and what is left behind it
-module _ (radix n : ℕ) (ds : List ℕ) (i : ℕ) (within : i < length ds) where
-  turn : reads-on radix n (drop i ds) ≡ cond (ltb (digitValue (getD ds i 0)) radix) (reads-on radix (n * radix + digitValue (getD ds i 0)) (drop (i + 1) ds)) None
-  turn = at-drop-more (reads-on radix n) ds i 0 within
+-- one turn of the loop: the byte at i, which v reads, and what is left behind it
+module _ (radix n : ℕ) (ds : List ℕ) (i : ℕ) (within : i < length ds) (v : Option ℕ) (is : v ≡ digit-of radix (getD ds i 0)) where
+  turn : reads-on radix n (drop i ds) ≡ then v (λ d. reads-on radix (n * radix + d) (drop (i + 1) ds))
+  turn = at-drop-more (reads-on radix n) ds i 0 within ∙ ap (λ o. then o (λ d. reads-on radix (n * radix + d) (drop (i + 1) ds))) (sym is)
 
-  pub no-digit : (v : Option ℕ) → v ≡ digit-of radix (getD ds i 0) → v ≡ None → reads-on radix n (drop i ds) ≡ None
-  no-digit v is none = turn ∙ refused (ltb (digitValue (getD ds i 0)) radix) _ _ (sym is ∙ none)
-    where
-      refused : (b : Bool) (x : ℕ) (o : Option ℕ) → cond b (Some x) None ≡ None → cond b o None ≡ None
-      refused true x o e = let z : _≡_ {A = ℕ} 0 1 = cc in absurd (omega arith)
-      refused false x o e = refl
+  pub no-digit : v ≡ None → reads-on radix n (drop i ds) ≡ None
+  no-digit none = turn ∙ ap (λ o. then o (λ d. reads-on radix (n * radix + d) (drop (i + 1) ds))) none
 
-  pub a-digit : (v : Option ℕ) (d : ℕ) → v ≡ digit-of radix (getD ds i 0) → v ≡ Some d → reads-on radix n (drop i ds) ≡ reads-on radix (n * radix + d) (drop (i + 1) ds)
-  a-digit v d is some = turn ∙ taken (ltb (digitValue (getD ds i 0)) radix) _ (sym is ∙ some)
-    where
-      taken : (b : Bool) (x : ℕ) → cond b (Some x) None ≡ Some d → cond b (reads-on radix (n * radix + x) (drop (i + 1) ds)) None ≡ reads-on radix (n * radix + d) (drop (i + 1) ds)
-      taken true x e = let same : x ≡ d = cc in ap (λ y. reads-on radix (n * radix + y) (drop (i + 1) ds)) same
-      taken false x e = let z : _≡_ {A = ℕ} 0 1 = cc in absurd (omega arith)
+  pub a-digit : (d : ℕ) → v ≡ Some d → reads-on radix n (drop i ds) ≡ reads-on radix (n * radix + d) (drop (i + 1) ds)
+  a-digit d some = turn ∙ ap (λ o. then o (λ d. reads-on radix (n * radix + d) (drop (i + 1) ds))) some

@@ -20,7 +20,8 @@ use Rattle.std.proofs.shelf.Digits.{length-digitsOf-step, under-digitsOf, numbe
 use Rattle.std.proofs.shelf.Lists.{length-map}
 use Rattle.std.proofs.shelf.Tests.{cond-true, cond-false, eq-eqb, ne-eqb, lt-ltb, and-from, and-right, cases-eq}
 use Rattle.std.proofs.shelf.Ways.{tells}
-use Rattle.text.specs.Numbers.{before, pairs-of, number-of, bytes-of, Number}
+use Rattle.text.specs.Numbers.{pair-of, pairs-of, number-of, bytes-of, Number}
+use Rattle.text.specs.Outcomes.{then}
 use Rattle.text.specs.Texts.{hex-digit, hexadecimal, two-digits, hex-bytes}
 use Rattle.text.proofs.Reading.{number-means}
 
@@ -66,8 +67,8 @@ pairs-back (b ∷ bs) all =
     let high = digit-back (b / 16) (omega arith) in
     let low = digit-back (b % 16) (omega arith) in
     let whole : digitValue (hex-digit (b / 16)) * 16 + digitValue (hex-digit (b % 16)) ≡ b = omega arith in
-    cond-true _ _ _ (and-from _ _ (lt-ltb (digitValue (hex-digit (b / 16))) 16 (omega arith)) (lt-ltb (digitValue (hex-digit (b % 16))) 16 (omega arith)))
-    ∙ ap (before (digitValue (hex-digit (b / 16)) * 16 + digitValue (hex-digit (b % 16)))) (pairs-back bs (all .1)) ∙ ap (λ n. Some (n ∷ bs)) whole
+    let read : pair-of (hex-digit (b / 16)) (hex-digit (b % 16)) ≡ Some b = cond-true _ _ _ (and-from _ _ (lt-ltb (digitValue (hex-digit (b / 16))) 16 (omega arith)) (lt-ltb (digitValue (hex-digit (b % 16))) 16 (omega arith))) ∙ ap Some whole in
+    ap (λ o. then o (λ c. then (pairs-of (joined two-digits bs)) (λ cs. Some (c ∷ cs)))) read ∙ ap (λ o. then o (λ cs. Some (b ∷ cs))) (pairs-back bs (all .1))
 
 pub bytes-back : (bs : List ℕ) → All (λ b. b < 256) bs → bytes-of (hex-bytes bs) ≡ Some bs
 bytes-back [] all = refl

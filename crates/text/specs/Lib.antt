@@ -1,6 +1,6 @@
+pub mod Outcomes
 pub mod Numbers
 pub mod Lines
 pub mod Layout
-pub mod Outcomes
 pub mod Texts
 pub mod RoundTrip

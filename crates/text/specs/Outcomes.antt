@@ -1,5 +1,6 @@
--- What comes of reading a line.
+-- What comes of reading.
 --
+--   then            goes on with a value, where there is one
 --   Gives           that a call answered with the value that there is, or said that there is none
 use mathlib.Core.Path.{_≡_}
 use Rattle.std.specs.declared.option.Option.{Option}
@@ -8,6 +9,10 @@ use Rattle.std.specs.declared.result.Result.{Result}
 use Rattle.std.specs.declared.result.Result.the-variants.{Ok, Err}
 use Rattle.text.specs.declared.outcomes.Unread.{Unread}
 use Rattle.text.specs.declared.outcomes.Unread.the-variants.{Unreadable, Memory}
+
+abbrev pub then : {A B : Type 0} → Option A → (A → Option B) → Option B
+then None f = None
+then (Some a) f = f a
 
 -- `Ok` where there is a value, which f shows of the answer; `Unreadable` where there is none; a want of memory tells nothing
 abbrev pub Gives : {A B : Type 0} → (A → B) → Result A Unread → Option B → Type 0

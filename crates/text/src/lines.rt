@@ -9,7 +9,7 @@ ghost use Rattle.text.specs.Lines.{blank, belongs, chopped, line-text, command
 
 // A run of bytes at the front of a text: blanks, the bytes of a word, or all that stands before a comment.
 #[derive(Clone, Copy)]
-pub enum Run {
+enum Run {
     Blanks,
     Letters,
     Code,

@@ -1,14 +1,11 @@
 // Numbers as scripts write them: digits alone, read at full width or not at all.
-ghost use mathlib.Core.Bool.{cond, _&&_};
 ghost use mathlib.Core.Path.{_≡_};
-ghost use Prim.Native.Nat.{_+_, _*_, _≤_};
-ghost use lib.Dec.{ltb};
-ghost use Rattle.std.specs.declared.option.Option.the-variants.{Some, None};
+ghost use Prim.Native.Nat.{_≤_};
 ghost use Rattle.std.specs.Of.Vec.{vec-items};
 ghost use Rattle.std.specs.Numbers.{Checked};
 ghost use Rattle.std.specs.Reads.{value};
 ghost use Rattle.std.specs.Text.{digitValue};
-ghost use Rattle.text.specs.Numbers.{digit-of, reads-on, number-of, Number, pairs-of, bytes-of};
+ghost use Rattle.text.specs.Numbers.{digit-of, reads-on, number-of, Number, pair-of, pairs-of, bytes-of};
 ghost use Rattle.text.specs.Outcomes.{Gives};
 use crate::lines::spells;
 use crate::outcomes::Unread;
@@ -28,6 +25,7 @@ fn digit_value(byte: u8) -> u8
     }
 }
 
+// The value of a digit of the radix.
 fn digit(radix: u64, byte: u8) -> Option<u64>
     ensures { λ r. ⌜ r ≡ digit-of radix byte ⌝ }
 {
@@ -48,6 +46,7 @@ fn total(radix: u64, digits: &[u8]) -> Option<u64>
     Some(total)
 }
 
+// The number that a word writes: an empty word writes none.
 fn number(radix: u64, word: &[u8]) -> Option<u64>
     requires { ⌜ 1 ≤ radix ⌝ }
     ensures value { λ r. ⌜ r ≡ number-of radix (now (word .entry)) ⌝ }
@@ -59,6 +58,7 @@ fn number(radix: u64, word: &[u8]) -> Option<u64>
     total(radix, word)
 }
 
+// The number that a word of decimal digits writes, or nothing: never a number cut down to 64 bits.
 pub fn decimal(word: &[u8]) -> Option<u64>
     ensures value { λ r. ⌜ r ≡ number-of 10 (now (word .entry)) ⌝ }
     ensures means { λ r. ⌜ Checked r (Number 10 (now (word .entry))) (value 10 (now (word .entry))) ⌝ }
@@ -66,6 +66,7 @@ pub fn decimal(word: &[u8]) -> Option<u64>
     number(10, word)
 }
 
+// The same in hexadecimal digits of either case.
 pub fn hexadecimal(word: &[u8]) -> Option<u64>
     ensures value { λ r. ⌜ r ≡ number-of 16 (now (word .entry)) ⌝ }
     ensures means { λ r. ⌜ Checked r (Number 16 (now (word .entry))) (value 16 (now (word .entry))) ⌝ }
@@ -75,7 +76,7 @@ pub fn hexadecimal(word: &[u8]) -> Option<u64>
 
 // The byte that two hexadecimal digits write.
 fn pair(high: u8, low: u8) -> Option<u8>
-    ensures { λ r. ⌜ r ≡ cond (ltb (digitValue high) 16 && ltb (digitValue low) 16) (Some (digitValue high * 16 + digitValue low)) None ⌝ }
+    ensures { λ r. ⌜ r ≡ pair-of high low ⌝ }
 {
     let high = digit_value(high);
     let low = digit_value(low);
@@ -85,6 +86,7 @@ fn pair(high: u8, low: u8) -> Option<u8>
     None
 }
 
+// The bytes that digits write, two to a byte.
 fn pairs(heap: Global, digits: &[u8]) -> Result<Vec<u8>, Unread>
     ensures { λ r. ⌜ Gives vec-items r (pairs-of (now (digits .entry))) ⌝ }
 {

@@ -10,12 +10,14 @@ ghost use Rattle.text.specs.Texts.{hex-digit, hexadecimal, two-digits, hex-byt
 use std::alloc::AllocError;
 use std::alloc::Global;
 
+// Puts a text behind what the list holds.
 pub fn put(out: &mut Vec<u8>, text: &[u8]) -> Result<(), AllocError>
     ensures { λ r. ⌜ Puts r (vec-items (now (out .entry))) (now (text .entry)) (vec-items (now (out .exit))) ⌝ }
 {
     out.extend_from_slice(text)
 }
 
+// The number in decimal digits, without leading zeros.
 pub fn put_decimal(heap: Global, out: &mut Vec<u8>, number: u64) -> Result<(), AllocError>
     ensures { λ r. ⌜ Puts r (vec-items (now (out .entry))) (decimal number) (vec-items (now (out .exit))) ⌝ }
 {
@@ -54,6 +56,7 @@ fn put_digits(out: &mut Vec<u8>, number: u64) -> Result<(), AllocError>
     put_digit(out, number % 16)
 }
 
+// The number in upper-case hexadecimal digits, without leading zeros.
 pub fn put_hexadecimal(out: &mut Vec<u8>, number: u64) -> Result<(), AllocError>
     ensures { λ r. ⌜ Puts r (vec-items (now (out .entry))) (hexadecimal number) (vec-items (now (out .exit))) ⌝ }
 {
@@ -76,6 +79,7 @@ fn put_pairs(out: &mut Vec<u8>, bytes: &[u8]) -> Result<(), AllocError>
     Ok(())
 }
 
+// The bytes in two digits each, or `-` where there are none.
 pub fn put_bytes(out: &mut Vec<u8>, bytes: &[u8]) -> Result<(), AllocError>
     ensures { λ r. ⌜ Puts r (vec-items (now (out .entry))) (hex-bytes (now (bytes .entry))) (vec-items (now (out .exit))) ⌝ }
 {

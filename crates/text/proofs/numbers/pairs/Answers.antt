@@ -18,7 +18,7 @@ pub loop-i-again : need.loop-i-again
 loop-i-again c =
     let pushed = c .in-Continue-push .ensures tt .items in
     ap (λ l. onto l (pairs-of (drop (2 * (c .loop-i .i + 1)) (c .args .digits .now)))) pushed
-    ∙ a-pair _ _ (2 * c .loop-i .i) _ (omega arith) (omega arith) _ _ (c .pair .ensures) (c .in-Some .is) ∙ c .loop-i .inv
+    ∙ a-pair _ _ (2 * c .loop-i .i) _ (omega arith) (omega arith) _ (c .pair .ensures) _ (c .in-Some .is) ∙ c .loop-i .inv
 
 pub returns : need.returns
 returns c = sym (c .loop-i .inv) ∙ all-read (c .args .digits .now) _ (2 * c .loop-i .i) (omega arith)

@@ -19,7 +19,7 @@ returns-in-Break-value c =
 -- a product or a sum of 2 ^ 64 and more
 overflowed : (c : In-Continue-value) → 2 ^ 64 ≤ c .loop-byte .total * c .args .radix + c .in-Continue-value .value → reads-on (c .args .radix) 0 (c .args .digits .now) ≡ None
 overflowed c big =
-    sym (c .loop-byte .inv .1) ∙ a-digit _ _ _ _ (c .loop-byte-test .taken) _ _ (c .digit .ensures) (c .in-Continue-value .was tt) ∙ too-large _ _ _ (c .pre) big
+    sym (c .loop-byte .inv .1) ∙ a-digit _ _ _ _ (c .loop-byte-test .taken) _ (c .digit .ensures) _ (c .in-Continue-value .was tt) ∙ too-large _ _ _ (c .pre) big
 
 pub returns-in-Break-checked-mul : need.returns-in-Break-checked-mul
 returns-in-Break-checked-mul c = c .from-residual-in-Break-checked-mul .ensures ∙ sym (overflowed (need.at·returns-in-Break-checked-mul c .In-Continue-value) (let h = c .in-Break-checked-mul .ensures tt in omega (arith, h)))
@@ -34,7 +34,7 @@ loop-byte-again c =
     let e : c .in-Continue-total .total ≡ c .loop-byte .total * c .args .radix + c .in-Continue-value .value = omega (arith, m, a) in (
       omega (arith, a, m),
       ap (λ n. reads-on (c .args .radix) n (drop (c .loop-byte .byte-index + 1) (c .args .digits .now))) e
-          ∙ sym (a-digit _ _ _ _ (c .loop-byte-test .taken) _ _ (c .digit .ensures) (c .in-Continue-value .was tt)) ∙ c .loop-byte .inv .1,
+          ∙ sym (a-digit _ _ _ _ (c .loop-byte-test .taken) _ (c .digit .ensures) _ (c .in-Continue-value .was tt)) ∙ c .loop-byte .inv .1,
     )
 
 pub returns : need.returns
