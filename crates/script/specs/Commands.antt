@@ -24,11 +24,13 @@ use Rattle.text.specs.Lines.{line-text, command-part, word-at}
 use Rattle.text.specs.Numbers.{number-of, bytes-of}
 use Rattle.text.specs.Outcomes.{then}
 
+-- a command as a value: its figures, and its bytes as a list
 pub data Said : Type 0 where
   memory : ListKind → ℕ → Said
   word : ℕ → ℕ → ℕ → Said
   scan : List ℕ → Said
 
+-- what a command of the program says
 abbrev pub said : Command → Said
 said (command.Memory kind size) = memory kind size
 said (command.Word frame index value) = word frame index value
@@ -49,6 +51,7 @@ decimal-at t n = number-of 10 (word-at t n)
 abbrev pub hexadecimal-at : List ℕ → ℕ → Option ℕ
 hexadecimal-at t n = number-of 16 (word-at t n)
 
+-- what the list is made of, by its name
 abbrev pub kind-of : List ℕ → Option ListKind
 kind-of w = cond (sameBytes w (codes "words")) (Some Words) (cond (sameBytes w (codes "bytes")) (Some Bytes) None)
 
@@ -69,14 +72,17 @@ word-of t = then (decimal-at t 1) (λ f. then (decimal-at t 2) (λ i. then (hexa
 abbrev pub scan-of : List ℕ → Option Said
 scan-of t = then (bytes-of (word-at t 1)) (λ bs. only t 2 (scan bs))
 
+-- the commands by their names
 abbrev pub keyword-of : List ℕ → Option Keyword
 keyword-of w = cond (sameBytes w (codes "memory")) (Some keyword.Memory) (cond (sameBytes w (codes "word")) (Some keyword.Word) (cond (sameBytes w (codes "scan")) (Some keyword.Scan) None))
 
+-- the rest of the text, by its first word
 abbrev pub spelled : Keyword → List ℕ → Option Said
 spelled keyword.Memory t = memory-of t
 spelled keyword.Word t = word-of t
 spelled keyword.Scan t = scan-of t
 
+-- a text is a command by its first word and those behind it
 abbrev pub command-of : List ℕ → Option Said
 command-of t = then (keyword-of (word-at t 0)) (λ k. spelled k t)
 

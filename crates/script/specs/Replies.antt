@@ -24,15 +24,18 @@ use Rattle.text.specs.Lines.{shown-text}
 use Rattle.script.specs.Sessions.{answer-of, held-after}
 use Rattle.text.specs.Texts.{hexadecimal, hex-bytes}
 
+-- the name of a kind of list, as it is read and printed
 abbrev pub kind-name : ListKind → List ℕ
 kind-name Words = codes "words"
 kind-name Bytes = codes "bytes"
 
+-- the words of the line, in one form
 abbrev pub echo : Said → List ℕ
 echo (memory kind size) = codes "memory " ++ (kind-name kind ++ (codes " " ++ decimal size))
 echo (word frame index value) = codes "word " ++ (decimal frame ++ (codes " " ++ (decimal index ++ (codes " " ++ hexadecimal value))))
 echo (scan bytes) = codes "scan " ++ hex-bytes bytes
 
+-- what stands behind the colon
 abbrev pub answer-text : Answer → List ℕ
 answer-text (Frames n) = decimal n ++ codes " frames"
 answer-text Done = codes "ok"
@@ -43,9 +46,11 @@ answer-text Fails = codes "fails"
 abbrev pub line-feed : List ℕ
 line-feed = 10 ∷ []
 
+-- which line it is
 abbrev pub line-at : ℕ → List ℕ
 line-at number = codes "line " ++ decimal number
 
+-- the line itself, behind its number
 abbrev pub cannot-read : ℕ → List ℕ → List ℕ
 cannot-read number line = line-at number ++ (codes ": cannot read: " ++ (shown-text line ++ line-feed))
 
@@ -60,6 +65,7 @@ replied number line m None = cannot-read number line
 replied number line m (Some None) = []
 replied number line m (Some (Some c)) = answered number line c (answer-of m c)
 
+-- what is printed for a line, where the session holds m
 abbrev pub reply : ℕ → List ℕ → Option (List ℕ) → List ℕ
 reply number line m = replied number line m (reading line)
 
@@ -69,6 +75,7 @@ after-reading m None = m
 after-reading m (Some None) = m
 after-reading m (Some (Some c)) = cond (isSome (answer-of m c)) (held-after m c) m
 
+-- what the session holds after a line, where it held m before
 abbrev pub after-line : List ℕ → Option (List ℕ) → Option (List ℕ)
 after-line line m = after-reading m (reading line)
 

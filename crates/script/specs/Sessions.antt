@@ -24,6 +24,7 @@ use Rattle.script.specs.Commands.{Said, memory, word, scan}
 use Rattle.text.specs.Outcomes.{Gives}
 use Rattle.script.specs.Supplies.{supplied-words, frames-for}
 
+-- the words that the memory shows, where there is a memory
 abbrev pub held : Session → Option (List ℕ)
 held s = mapped supplied-words (s .memory)
 
@@ -32,11 +33,13 @@ abbrev pub preset-answer : Option (List ℕ) → ℕ → ℕ → Option Answer
 preset-answer None frame index = None
 preset-answer (Some ws) frame index = cond (ltb index 512 && ltb (512 * frame + index) (length ws)) (Some Done) None
 
+-- the count of frames, that the word was put, or the scanner's verdict
 abbrev pub answer-of : Option (List ℕ) → Said → Option Answer
 answer-of m (memory kind size) = Some (Frames (frames-for kind size))
 answer-of m (word frame index value) = preset-answer m frame index
 answer-of m (scan bytes) = Some (cond (passing bytes) Passes Fails)
 
+-- a new memory is zero throughout, a preset changes one word, a scan none
 abbrev pub held-after : Option (List ℕ) → Said → Option (List ℕ)
 held-after m (memory kind size) = Some (replicate (512 * frames-for kind size) 0)
 held-after m (word frame index value) = mapped (λ ws. set ws (512 * frame + index) value) m

@@ -15,10 +15,12 @@ use Rattle.script.specs.declared.commands.ListKind.the-variants as kind
 use Rattle.script.specs.declared.supplied.Supplied.{Supplied}
 use Rattle.script.specs.declared.supplied.Supplied.the-variants.{Words, Bytes}
 
+-- the words of the whole frames of its list
 abbrev pub supplied-words : Supplied → List ℕ
 supplied-words (Words list) = shown (vec-items list)
 supplied-words (Bytes list) = words-of (vec-items list)
 
+-- how many frames those are
 abbrev pub supplied-size : Supplied → ℕ
 supplied-size (Words list) = frames-in 512 (vec-items list)
 supplied-size (Bytes list) = frames-in 4096 (vec-items list)

@@ -11,9 +11,11 @@ use lib.ListN.{length, getD}
 use Rattle.std.specs.shelf.Lists.{All}
 use Rattle.text.specs.Lines.{blank, word-at}
 
+-- spaces and tabs alone, or nothing
 abbrev pub Blank : List ℕ → Type 0
 Blank t = All (λ b. blank b ≡ true) t
 
+-- one byte or more, and no blank among them
 abbrev pub Word : List ℕ → Type 0
 Word w = (0 < length w) × All (λ b. blank b ≡ false) w
 
@@ -35,6 +37,7 @@ abbrev pub Laid : List (List ℕ) → List ℕ → Type 0
 Laid [] t = Blank t
 Laid (w ∷ ws) t = (rest : List ℕ) × (Begins w rest t × Laid ws rest)
 
+-- there are such words for every text, and the word at a place is the one of them with that number
 pub record Words-found : Type 0 where
   pub laid : (t : List ℕ) → (ws : List (List ℕ)) × Laid ws t
   pub found : (ws : List (List ℕ)) (t : List ℕ) (n : ℕ) → Laid ws t → word-at t n ≡ getD ws n []

@@ -10,6 +10,7 @@ use Rattle.std.specs.declared.result.Result.the-variants.{Ok, Err}
 use Rattle.text.specs.declared.outcomes.Unread.{Unread}
 use Rattle.text.specs.declared.outcomes.Unread.the-variants.{Unreadable, Memory}
 
+-- nothing where there is no value, else what f makes of it
 abbrev pub then : {A B : Type 0} → Option A → (A → Option B) → Option B
 then None f = None
 then (Some a) f = f a

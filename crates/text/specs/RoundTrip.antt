@@ -10,6 +10,7 @@ use Rattle.std.specs.shelf.Lists.{All}
 use Rattle.text.specs.Numbers.{number-of, bytes-of}
 use Rattle.text.specs.Texts.{hexadecimal, hex-bytes}
 
+-- printing and then reading gives the number, or the bytes, again
 pub record Reads-back : Type 0 where
   pub decimals : (n : ℕ) → n < 2 ^ 64 → number-of 10 (decimal n) ≡ Some n
   pub hexadecimals : (n : ℕ) → n < 2 ^ 64 → number-of 16 (hexadecimal n) ≡ Some n

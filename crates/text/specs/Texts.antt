@@ -19,6 +19,7 @@ use Rattle.std.specs.shelf.Digits.{digitsOf}
 abbrev pub hex-digit : ℕ → ℕ
 hex-digit d = cond (ltb d 10) (48 + d) (55 + d)
 
+-- the digits of a number; 0 has one digit
 unfoldable pub hexadecimal : ℕ → List ℕ
 hexadecimal n = cond (eqb n 0) (codes "0") (map hex-digit (digitsOf 16 n))
 
@@ -26,6 +27,7 @@ hexadecimal n = cond (eqb n 0) (codes "0") (map hex-digit (digitsOf 16 n))
 abbrev pub two-digits : ℕ → List ℕ
 two-digits b = hex-digit (b / 16) ∷ hex-digit (b % 16) ∷ []
 
+-- the digits of all bytes, the first byte first
 abbrev pub hex-bytes : List ℕ → List ℕ
 hex-bytes bs = cond (eqb (length bs) 0) (codes "-") (joined two-digits bs)
 
