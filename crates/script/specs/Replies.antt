@@ -6,8 +6,10 @@
 --   reply           what is printed for a line
 --   after-line      what a session holds after a line
 --   Replied         both, of a call
+--   Whole           that a line was carried out whole or not at all
 use mathlib.Core.Bool.{cond}
 use mathlib.Core.List.{List, [], _∷_, _++_}
+use mathlib.Core.Logic.{_⊎_}
 use mathlib.Core.Path.{_≡_}
 use Prim.Native.Nat.{ℕ}
 use lib.Chars.{codes}
@@ -83,3 +85,7 @@ after-line line m = after-reading m (reading line)
 pub record Replied (number : ℕ) (line : List ℕ) (m m′ : Option (List ℕ)) (was is : List ℕ) : Type 0 where
   pub text : is ≡ was ++ reply number line m
   pub holds : m′ ≡ after-line line m
+
+-- where memory ran out, the line was carried out whole or not at all
+abbrev pub Whole : List ℕ → Option (List ℕ) → Option (List ℕ) → Type 0
+Whole line m m′ = (m′ ≡ m) ⊎ (m′ ≡ after-line line m)

@@ -2,9 +2,9 @@
 ghost use mathlib.Core.List.{_++_};
 ghost use lib.Chars.{codes};
 ghost use Rattle.std.specs.Of.Vec.{vec-items};
-ghost use Rattle.std.specs.Vec.{made};
+ghost use Rattle.std.specs.Vec.{made, refused};
 ghost use Rattle.script.specs.Commands.{said};
-ghost use Rattle.script.specs.Replies.{kind-name, echo, answer-text, line-at, cannot-read, line-feed, Replied};
+ghost use Rattle.script.specs.Replies.{kind-name, echo, answer-text, line-at, cannot-read, line-feed, Replied, Whole};
 ghost use Rattle.script.specs.Sessions.{held};
 ghost use Rattle.text.specs.Texts.{Puts};
 use crate::commands::Command;
@@ -117,7 +117,8 @@ impl Session {
         line: &[u8],
         out: &mut Vec<u8>,
     ) -> Result<(), AllocError>
-        ensures { λ r. ⌜ made r (λ _. Replied number (now (line .entry)) (held (now (self .entry))) (held (now (self .exit))) (vec-items (now (out .entry))) (vec-items (now (out .exit)))) ⌝ }
+        ensures done { λ r. ⌜ made r (λ _. Replied number (now (line .entry)) (held (now (self .entry))) (held (now (self .exit))) (vec-items (now (out .entry))) (vec-items (now (out .exit)))) ⌝ }
+        ensures refused { λ r. ⌜ refused r (λ _. Whole (now (line .entry)) (held (now (self .entry))) (held (now (self .exit)))) ⌝ }
     {
         match read(heap, line) {
             Ok(None) => Ok(()),
