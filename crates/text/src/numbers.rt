@@ -1,6 +1,6 @@
 // Numbers as scripts write them: digits alone, read at full width or not at all.
 ghost use mathlib.Core.Path.{_≡_};
-ghost use Prim.Native.Nat.{_≤_};
+ghost use Prim.Native.Nat.{_+_, _*_, _^_, _≤_, _<_};
 ghost use Rattle.std.specs.Of.Vec.{vec-items};
 ghost use Rattle.std.specs.Numbers.{Checked};
 ghost use Rattle.std.specs.Reads.{value};
@@ -33,6 +33,13 @@ fn digit(radix: u64, byte: u8) -> Option<u64>
     if value < radix { Some(value) } else { None }
 }
 
+// A number with one more digit behind it, or nothing where that is 2^64 or more.
+fn with_digit(number: u64, radix: u64, digit: u64) -> Option<u64>
+    ensures { λ r. ⌜ Checked r (number * radix + digit < 2 ^ 64) (number * radix + digit) ⌝ }
+{
+    number.checked_mul(radix)?.checked_add(digit)
+}
+
 // The number that the digits write, or nothing where one is no digit or the number is 2^64 or more.
 fn total(radix: u64, digits: &[u8]) -> Option<u64>
     requires { ⌜ 1 ≤ radix ⌝ }
@@ -41,7 +48,7 @@ fn total(radix: u64, digits: &[u8]) -> Option<u64>
     let mut total: u64 = 0;
     for byte in digits {
         let value = digit(radix, *byte)?;
-        total = total.checked_mul(radix)?.checked_add(value)?;
+        total = with_digit(total, radix, value)?;
     }
     Some(total)
 }

@@ -10,29 +10,23 @@ use Rattle.std.proofs.shelf.Tests.{cond-true, lt-ltb}
 use Rattle.text.specs.Numbers.{reads-on}
 use Rattle.text.proofs.Reading.{too-large, no-digit, a-digit}
 use Rattle.text.proofs.numbers.total.Needs as need
-use Rattle.text.proofs.numbers.total.Needs.{In-Continue-value}
 
 pub returns-in-Break-value : need.returns-in-Break-value
 returns-in-Break-value c =
     c .from-residual .ensures ∙ sym (no-digit _ _ _ _ (c .loop-byte-test .taken) _ (c .digit .ensures) (c .in-Break-value .was tt)) ∙ c .loop-byte .inv .1
 
--- a product or a sum of 2 ^ 64 and more
-overflowed : (c : In-Continue-value) → 2 ^ 64 ≤ c .loop-byte .total * c .args .radix + c .in-Continue-value .value → reads-on (c .args .radix) 0 (c .args .digits .now) ≡ None
-overflowed c big =
-    sym (c .loop-byte .inv .1) ∙ a-digit _ _ _ _ (c .loop-byte-test .taken) _ (c .digit .ensures) _ (c .in-Continue-value .was tt) ∙ too-large _ _ _ (c .pre) big
-
-pub returns-in-Break-checked-mul : need.returns-in-Break-checked-mul
-returns-in-Break-checked-mul c = c .from-residual-in-Break-checked-mul .ensures ∙ sym (overflowed (need.at·returns-in-Break-checked-mul c .In-Continue-value) (let h = c .in-Break-checked-mul .ensures tt in omega (arith, h)))
-
 pub returns-in-Break-total : need.returns-in-Break-total
-returns-in-Break-total c = c .from-residual-in-Break-total .ensures ∙ sym (overflowed (need.at·returns-in-Break-total c .In-Continue-value) (let h = c .in-Break-total .ensures tt in let m = c .in-Continue-checked-mul .ensures tt in omega (arith, h, m)))
+returns-in-Break-total c =
+    let none = c .in-Break-total .ensures tt in
+    let big : 2 ^ 64 ≤ c .loop-byte .total * c .args .radix + c .in-Continue-value .value = omega (arith, none) in
+    c .from-residual-in-Break-total .ensures
+    ∙ sym (sym (c .loop-byte .inv .1) ∙ a-digit _ _ _ _ (c .loop-byte-test .taken) _ (c .digit .ensures) _ (c .in-Continue-value .was tt) ∙ too-large _ _ _ (c .pre) big)
 
 pub loop-byte-again : need.loop-byte-again
 loop-byte-again c =
-    let m = c .in-Continue-checked-mul .ensures tt in
-    let a = c .in-Continue-total .ensures tt in
-    let e : c .in-Continue-total .total ≡ c .loop-byte .total * c .args .radix + c .in-Continue-value .value = omega (arith, m, a) in (
-      omega (arith, a, m),
+    let grown = c .in-Continue-total .ensures tt in
+    let e : c .in-Continue-total .total ≡ c .loop-byte .total * c .args .radix + c .in-Continue-value .value = grown .1 in (
+      omega (arith, grown),
       ap (λ n. reads-on (c .args .radix) n (drop (c .loop-byte .byte-index + 1) (c .args .digits .now))) e
           ∙ sym (a-digit _ _ _ _ (c .loop-byte-test .taken) _ (c .digit .ensures) _ (c .in-Continue-value .was tt)) ∙ c .loop-byte .inv .1,
     )
