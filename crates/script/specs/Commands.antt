@@ -3,7 +3,7 @@
 --   Said, said      what a command says: the command with its bytes as a list
 --   command-of      the command that a text without comment spells
 --   reading         what a whole line comes to
-use mathlib.Core.Bool.{Bool, cond}
+use mathlib.Core.Bool.{Bool, true, false, cond, not, _&&_}
 use mathlib.Core.List.{List}
 use Prim.Native.Nat.{ℕ}
 use lib.Chars.{codes}
@@ -89,3 +89,13 @@ command-of t = then (keyword-of (word-at t 0)) (λ k. spelled k t)
 -- nothing to do on a line with no word before its comment, else its command; none where the line cannot be read
 abbrev pub reading : List ℕ → Option (Option Said)
 reading l = cond (ends-before (command-part (line-text l)) 0) (Some None) (mapped Some (command-of (command-part (line-text l))))
+
+-- whether a line is to be read as `scan`, the one command that takes memory when it is read
+abbrev pub is-scan : Option Keyword → Bool
+is-scan None = false
+is-scan (Some keyword.Memory) = false
+is-scan (Some keyword.Word) = false
+is-scan (Some keyword.Scan) = true
+
+abbrev pub scans : List ℕ → Bool
+scans l = not (ends-before (command-part (line-text l)) 0) && is-scan (keyword-of (word-at (command-part (line-text l)) 0))

@@ -7,7 +7,7 @@
 --   after-line      what a session holds after a line
 --   Replied         both, of a call
 --   Whole           that a line was carried out whole or not at all
-use mathlib.Core.Bool.{cond}
+use mathlib.Core.Bool.{false, cond}
 use mathlib.Core.List.{List, [], _∷_, _++_}
 use mathlib.Core.Logic.{_⊎_}
 use mathlib.Core.Path.{_≡_}
@@ -21,8 +21,8 @@ use Rattle.script.specs.declared.commands.ListKind.{ListKind}
 use Rattle.script.specs.declared.commands.ListKind.the-variants.{Words, Bytes}
 use Rattle.script.specs.declared.session.Answer.{Answer}
 use Rattle.script.specs.declared.session.Answer.the-variants.{Frames, Done, Passes, Fails}
-use Rattle.script.specs.Commands.{Said, memory, word, scan, reading}
-use Rattle.text.specs.Lines.{shown-text}
+use Rattle.script.specs.Commands.{Said, memory, word, scan, ends-before, reading}
+use Rattle.text.specs.Lines.{line-text, command-part, shown-text}
 use Rattle.script.specs.Sessions.{answer-of, held-after}
 use Rattle.text.specs.Texts.{hexadecimal, hex-bytes}
 
@@ -86,6 +86,7 @@ pub record Replied (number : ℕ) (line : List ℕ) (m m′ : Option (List ℕ))
   pub text : is ≡ was ++ reply number line m
   pub holds : m′ ≡ after-line line m
 
--- where memory ran out, the line was carried out whole or not at all
-abbrev pub Whole : List ℕ → Option (List ℕ) → Option (List ℕ) → Type 0
-Whole line m m′ = (m′ ≡ m) ⊎ (m′ ≡ after-line line m)
+-- where memory ran out, the line was carried out whole or not at all, and it was not one that asks for nothing
+pub record Whole (line : List ℕ) (m m′ : Option (List ℕ)) : Type 0 where
+  pub holds : (m′ ≡ m) ⊎ (m′ ≡ after-line line m)
+  pub asks : ends-before (command-part (line-text line)) 0 ≡ false

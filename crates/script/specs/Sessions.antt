@@ -4,7 +4,7 @@
 --   answer-of       the answer to a command; none where it cannot be read at this point
 --   held-after      the words after a command that was answered
 --   Carries         that a call answered a command, and left the session as it should
-use mathlib.Core.Bool.{cond, _&&_}
+use mathlib.Core.Bool.{Bool, true, false, cond, _&&_}
 use mathlib.Core.List.{List}
 use mathlib.Core.Path.{_≡_}
 use Prim.Native.Nat.{ℕ, _+_, _*_}
@@ -21,7 +21,7 @@ use Rattle.script.specs.declared.session.Answer.{Answer}
 use Rattle.script.specs.declared.session.Answer.the-variants.{Frames, Done, Passes, Fails}
 use Rattle.script.specs.declared.session.Session.{Session}
 use Rattle.script.specs.Commands.{Said, memory, word, scan}
-use Rattle.text.specs.Outcomes.{Gives}
+use Rattle.text.specs.Outcomes.{Gives, wants-memory}
 use Rattle.script.specs.Supplies.{supplied-words, frames-for}
 
 -- the words that the memory shows, where there is a memory
@@ -45,7 +45,14 @@ held-after m (memory kind size) = Some (replicate (512 * frames-for kind size) 0
 held-after m (word frame index value) = mapped (λ ws. set ws (512 * frame + index) value) m
 held-after m (scan bytes) = m
 
--- the answer is that of the command, and only an answered command changes what is held
+-- whether carrying out a command takes memory: a new list does, and nothing else
+abbrev pub allocates : Said → Bool
+allocates (memory kind size) = true
+allocates (word frame index value) = false
+allocates (scan bytes) = false
+
+-- the answer is that of the command, only an answered command changes what is held, and memory is wanted only where it is taken
 pub record Carries (c : Said) (r : Result Answer Unread) (was is : Option (List ℕ)) : Type 0 where
   pub answers : Gives (λ a. a) r (answer-of was c)
   pub after : is ≡ cond (isOk r) (held-after was c) was
+  pub wants : wants-memory r ≡ true → allocates c ≡ true

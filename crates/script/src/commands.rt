@@ -1,9 +1,12 @@
 // The commands of a script, and how a line is read into one.
+ghost use mathlib.Core.Bool.{true, false};
 ghost use mathlib.Core.Path.{_≡_};
+ghost use Rattle.std.specs.declared.option.Option.the-variants.{Some};
 ghost use Rattle.std.specs.Options.{mapped};
-ghost use Rattle.script.specs.Commands.{said, ends-before, decimal-at, hexadecimal-at, kind-of, most, memory-of, word-of, scan-of, keyword-of, command-of, reading};
+ghost use Rattle.script.specs.declared.commands.Keyword.the-variants.{Scan};
+ghost use Rattle.script.specs.Commands.{said, ends-before, decimal-at, hexadecimal-at, kind-of, most, memory-of, word-of, scan-of, keyword-of, command-of, reading, scans};
 ghost use Rattle.text.specs.Lines.{word-at};
-ghost use Rattle.text.specs.Outcomes.{Gives};
+ghost use Rattle.text.specs.Outcomes.{Gives, wants-memory};
 use std::alloc::Global;
 use text::lines::command_part;
 use text::lines::is_word;
@@ -135,12 +138,24 @@ fn scan_command(heap: Global, text: &[u8]) -> Result<Command, Unread>
     Err(Unread::Unreadable)
 }
 
+// A command that was read without taking memory.
+fn readable(command: Option<Command>) -> Result<Command, Unread>
+    ensures wants { λ r. ⌜ wants-memory r ≡ false ⌝ }
+    ensures gives { λ r. ⌜ Gives said r (mapped said command) ⌝ }
+{
+    match command {
+        Some(command) => Ok(command),
+        None => Err(Unread::Unreadable),
+    }
+}
+
 fn any_command(heap: Global, text: &[u8]) -> Result<Command, Unread>
-    ensures { λ r. ⌜ Gives said r (command-of (now (text .entry))) ⌝ }
+    ensures wants { λ r. ⌜ (wants-memory r ≡ true → keyword-of (word-at (now (text .entry)) 0) ≡ Some Scan) ⌝ }
+    ensures gives { λ r. ⌜ Gives said r (command-of (now (text .entry))) ⌝ }
 {
     match first_word(text) {
-        Some(Keyword::Memory) => memory_command(text).ok_or(Unread::Unreadable),
-        Some(Keyword::Word) => word_command(text).ok_or(Unread::Unreadable),
+        Some(Keyword::Memory) => readable(memory_command(text)),
+        Some(Keyword::Word) => readable(word_command(text)),
         Some(Keyword::Scan) => scan_command(heap, text),
         None => Err(Unread::Unreadable),
     }
@@ -148,7 +163,8 @@ fn any_command(heap: Global, text: &[u8]) -> Result<Command, Unread>
 
 // Reads a line, with or without its line end. A line that holds no word before its comment asks for nothing.
 pub fn read(heap: Global, line: &[u8]) -> Result<Option<Command>, Unread>
-    ensures { λ r. ⌜ Gives (mapped said) r (reading (now (line .entry))) ⌝ }
+    ensures wants { λ r. ⌜ (wants-memory r ≡ true → scans (now (line .entry)) ≡ true) ⌝ }
+    ensures gives { λ r. ⌜ Gives (mapped said) r (reading (now (line .entry))) ⌝ }
 {
     let text = command_part(line_text(line));
     if ends(text, 0) {

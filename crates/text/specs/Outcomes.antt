@@ -2,6 +2,8 @@
 --
 --   then            goes on with a value, where there is one
 --   Gives           that a call answered with the value that there is, or said that there is none
+--   wants-memory    that a call answered that there was no memory
+use mathlib.Core.Bool.{Bool, true, false}
 use mathlib.Core.Path.{_≡_}
 use Rattle.std.specs.declared.option.Option.{Option}
 use Rattle.std.specs.declared.option.Option.the-variants.{Some, None}
@@ -20,3 +22,9 @@ abbrev pub Gives : {A B : Type 0} → (A → B) → Result A Unread → Option B
 Gives f (Ok a) o = o ≡ Some (f a)
 Gives f (Err Unreadable) o = o ≡ None
 Gives f (Err Memory) o = Unit {0}
+
+-- `Gives` tells nothing where this is true: a contract says beside it when it can be
+abbrev pub wants-memory : {A : Type 0} → Result A Unread → Bool
+wants-memory (Ok a) = false
+wants-memory (Err Unreadable) = false
+wants-memory (Err Memory) = true

@@ -1,12 +1,14 @@
 // Numbers as scripts write them: digits alone, read at full width or not at all.
 ghost use mathlib.Core.Path.{_≡_};
-ghost use Prim.Native.Nat.{_+_, _*_, _^_, _≤_, _<_};
+ghost use mathlib.Core.Bool.{true};
+ghost use Prim.Native.Nat.{_+_, _*_, _%_, _^_, _≤_, _<_};
+ghost use lib.ListN.{length};
 ghost use Rattle.std.specs.Of.Vec.{vec-items};
 ghost use Rattle.std.specs.Numbers.{Checked};
 ghost use Rattle.std.specs.Reads.{value};
 ghost use Rattle.std.specs.Text.{digitValue};
 ghost use Rattle.text.specs.Numbers.{digit-of, reads-on, number-of, Number, pair-of, pairs-of, bytes-of};
-ghost use Rattle.text.specs.Outcomes.{Gives};
+ghost use Rattle.text.specs.Outcomes.{Gives, wants-memory};
 use crate::lines::spells;
 use crate::outcomes::Unread;
 use crate::outcomes::UnreadFromAlloc;
@@ -95,7 +97,8 @@ fn pair(high: u8, low: u8) -> Option<u8>
 
 // The bytes that digits write, two to a byte.
 fn pairs(heap: Global, digits: &[u8]) -> Result<Vec<u8>, Unread>
-    ensures { λ r. ⌜ Gives vec-items r (pairs-of (now (digits .entry))) ⌝ }
+    ensures wants { λ r. ⌜ (wants-memory r ≡ true → length (now (digits .entry)) % 2 ≡ 0) ⌝ }
+    ensures gives { λ r. ⌜ Gives vec-items r (pairs-of (now (digits .entry))) ⌝ }
 {
     if digits.len() % 2 != 0 {
         return Err(Unread::Unreadable);
@@ -112,7 +115,8 @@ fn pairs(heap: Global, digits: &[u8]) -> Result<Vec<u8>, Unread>
 
 // The bytes that a word writes, the one at the lowest address first. `-` writes none.
 pub fn bytes(heap: Global, word: &[u8]) -> Result<Vec<u8>, Unread>
-    ensures { λ r. ⌜ Gives vec-items r (bytes-of (now (word .entry))) ⌝ }
+    ensures wants { λ r. ⌜ (wants-memory r ≡ true → (0 < length (now (word .entry))) × (length (now (word .entry)) % 2 ≡ 0)) ⌝ }
+    ensures gives { λ r. ⌜ Gives vec-items r (bytes-of (now (word .entry))) ⌝ }
 {
     if spells(word, b"-") {
         return Ok(Vec::new(heap));

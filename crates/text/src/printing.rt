@@ -1,9 +1,11 @@
 // Texts behind what a list of bytes holds.
 ghost use mathlib.Core.List.{[], _∷_};
 ghost use mathlib.Core.Path.{_≡_};
-ghost use Prim.Native.Nat.{_<_};
+ghost use Prim.Native.Nat.{_+_, _<_};
+ghost use lib.ListN.{length};
 ghost use Rattle.std.specs.Joined.{joined};
-ghost use Rattle.std.specs.Of.Vec.{vec-items};
+ghost use Rattle.std.specs.Of.Vec.{vec-cap, vec-items, vec-len};
+ghost use Rattle.std.specs.Vec.{refused};
 ghost use Rattle.std.specs.Written.{decimal};
 ghost use Rattle.text.specs.RoundTrip.{Reads-back};
 ghost use Rattle.text.specs.Texts.{hex-digit, hexadecimal, two-digits, hex-bytes, Puts};
@@ -12,7 +14,9 @@ use std::alloc::Global;
 
 // Puts a text behind what the list holds.
 pub fn put(out: &mut Vec<u8>, text: &[u8]) -> Result<(), AllocError>
-    ensures { λ r. ⌜ Puts r (vec-items (now (out .entry))) (now (text .entry)) (vec-items (now (out .exit))) ⌝ }
+    ensures done { λ r. ⌜ Puts r (vec-items (now (out .entry))) (now (text .entry)) (vec-items (now (out .exit))) ⌝ }
+    ensures same { λ r. ⌜ refused r (λ _. vec-items (now (out .exit)) ≡ vec-items (now (out .entry))) ⌝ }
+    ensures full { λ r. ⌜ refused r (λ _. vec-cap (now (out .entry)) < vec-len (now (out .entry)) + length (now (text .entry))) ⌝ }
 {
     out.extend_from_slice(text)
 }

@@ -10,5 +10,5 @@ use Rattle.script.proofs.replies.put_unreadable.Needs as need
 pub returns : need.returns
 returns c =
     puts-behind (c .put-3 .result) (vec-items (c .args .out .now)) (line-at (c .args .number)) (codes ": cannot read: " ++ (shown-text (c .args .line .now) ++ line-feed)) _ _ (c .in-Continue-put-place .ensures tt)
-    (puts-behind (c .put-3 .result) _ (codes ": cannot read: ") (shown-text (c .args .line .now) ++ line-feed) _ _ (c .in-Continue-put .ensures tt)
-    (puts-behind (c .put-3 .result) _ (shown-text (c .args .line .now)) line-feed _ _ (c .in-Continue-put-2 .ensures tt ∙ ap (λ l. vec-items (c .put .last .out) ++ l) (c .shown-text .ensures)) (c .put-3 .ensures)))
+    (puts-behind (c .put-3 .result) _ (codes ": cannot read: ") (shown-text (c .args .line .now) ++ line-feed) _ _ (c .in-Continue-put .ensures tt .done)
+    (puts-behind (c .put-3 .result) _ (shown-text (c .args .line .now)) line-feed _ _ (c .in-Continue-put-2 .ensures tt .done ∙ ap (λ l. vec-items (c .put .last .out) ++ l) (c .shown-text .ensures)) (c .put-3 .ensures .done)))

@@ -11,8 +11,7 @@ pub returns-then-digits-ne0 : need.returns-then-digits-ne0
 returns-then-digits-ne0 c = search (needs, odd-none)
 
 pub returns-in-rest : need.returns-in-rest
-returns-in-rest c =
-    sym (c .loop-i .inv) ∙ no-pair (c .args .digits .now) _ (2 * c .loop-i .i) (2 * c .loop-i .i + 2) (omega arith) (omega arith) _ (c .pair .ensures) (c .in-rest .is)
+returns-in-rest c = record { wants = λ _. c .if-digits-ne0 .left; gives = sym (c .loop-i .inv) ∙ no-pair (c .args .digits .now) _ (2 * c .loop-i .i) (2 * c .loop-i .i + 2) (omega arith) (omega arith) _ (c .pair .ensures) (c .in-rest .is) }
 
 pub loop-i-again : need.loop-i-again
 loop-i-again c =
@@ -21,4 +20,4 @@ loop-i-again c =
     ∙ a-pair _ _ (2 * c .loop-i .i) _ (omega arith) (omega arith) _ (c .pair .ensures) _ (c .in-Some .is) ∙ c .loop-i .inv
 
 pub returns : need.returns
-returns c = sym (c .loop-i .inv) ∙ all-read (c .args .digits .now) _ (2 * c .loop-i .i) (omega arith)
+returns c = record { wants = λ _. c .if-digits-ne0 .left; gives = sym (c .loop-i .inv) ∙ all-read (c .args .digits .now) _ (2 * c .loop-i .i) (omega arith) }
