@@ -1,10 +1,11 @@
 -- The rule for code that cannot change the processor's protection, with no scanner in it.
--- Names: `lead`, `group`, `writes`, `within`, `loads` (bytes); `after-group`, `after-lead`, `passing` (runs of bytes);
+-- Names: `lead`, `group`, `writes`, `loads` (bytes); `after-group`, `after-lead`, `passing` (runs of bytes);
 -- `Outside`, `None-loads`, `Clean` (the rule place by place); `bytes-of-words` (words as bytes).
 use Prim.Native.Nat.{ℕ, suc, _≤_}
 use Rattle.memory.specs.ByteOrder.{bytes-of}
 use Rattle.std.specs.Joined.{joined}
-use lib.Dec.{eqb, leb}
+use Rattle.std.specs.Text.{within}
+use lib.Dec.{eqb}
 use lib.ListN.{length, getD}
 use mathlib.Core.Bool.{Bool, true, not, _&&_, _||_}
 use mathlib.Core.List.{List, [], _∷_}
@@ -22,10 +23,6 @@ group b = eqb b 1
 -- 22 and 30: after 0F, a move into a control register and a write of a model-specific register
 abbrev pub writes : ℕ → Bool
 writes b = eqb b 34 || eqb b 48
-
--- a byte from `low` to `high`
-abbrev pub within : ℕ → ℕ → ℕ → Bool
-within low high b = leb low b && leb b high
 
 -- 18 to 1F, 58 to 5F and 98 to 9F: after 0F 01, a load of the interrupt table register
 abbrev pub loads : ℕ → Bool
