@@ -1,4 +1,7 @@
 // The console: carries out a script, from the file that its first argument names, or else from standard input.
+
+#![tactic(auto)]
+
 use script::session::Session;
 use std::io::{BufRead, BufReader, Read, Write};
 use std::{env, fs};

@@ -1,5 +1,7 @@
 // Memories: frames of 512 words of 64 bits, read and written word by word.
 
+#![tactic(auto)]
+
 pub mod byte_list;
 pub mod kinds;
 #[cfg(test)]

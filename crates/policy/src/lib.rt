@@ -1,5 +1,7 @@
 // Write policies: which bytes of a protected region may still be written.
 
+#![tactic(auto)]
+
 pub mod append_only;
 pub mod free;
 pub mod history;

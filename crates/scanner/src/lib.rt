@@ -3,6 +3,8 @@
 // A run of bytes passes where 0F never has 22 or 30 behind it, and 0F 01 never a byte of 18 to 1F, 58 to 5F or 98 to 9F,
 // and where neither 0F nor 0F 01 ends it.
 
+#![tactic(auto)]
+
 pub mod classes;
 pub mod scan;
 #[cfg(test)]

@@ -1,4 +1,7 @@
 // Reads console scripts and carries them out, line by line.
+
+#![tactic(auto)]
+
 pub mod commands;
 pub mod replies;
 pub mod session;
