@@ -5,7 +5,7 @@ use Rattle.memory.proofs.byte_list.put.Goals as goal
 
 pub returns : goal.returns
 returns c =
-    let list = laid c.args.list.now c.copy-from-slice.new.self c.args.index c.args.value (c.copy-from-slice.ensures.after ∙ c.to-le-bytes.ensures) in
+    let list = laid c.args.list.now c.copy_from_slice.new.self c.args.index c.args.value (c.copy_from_slice.ensures.after ∙ c.to_le_bytes.ensures) in
     record {
       list = list;
       rest = behind-put_word c.args.list.now _ c.args.index c.args.value list c.requires;

@@ -1,16 +1,17 @@
 -- No flag of the part is clear where each is set.
-use Rattle.std.proofs.Common.{◌≡◌, ℕ, ◌+◌, ◌-◌, ◌<◌, ◌≤◌, Bool, true, false, not, eqb, List, length, get_or, Decides, sym, ap, ◌∙◌, ⊎_elim, arith}
+use Rattle.std.proofs.Common.{◌≡◌, ℕ, ◌+◌, ◌-◌, ◌<◌, ◌≤◌, Bool, true, false, not, List, length, get_or, Decides, sym, ap, ◌∙◌, ⊎_elim, arith}
 use Rattle.policy.proofs.write_once.set_throughout.Goals as goal
 use Rattle.std.proofs.lemmas.List.Edits.{get_or-between, length-between}
 use Rattle.std.proofs.lemmas.List.Elements.{contains_decides}
 use Rattle.std.proofs.lemmas.List.{get_or_default}
 use Rattle.std.proofs.lemmas.Bool.{both_ways, cases_Bool, not_from_false, not-true}
 use Rattle.std.specs.List.{between, IsAnyAnswer}
-use Rattle.std.proofs.lemmas.Bool.Decides.{Decides-eqb}
+use Rattle.std.proofs.Math.Bool.{beq}
+use Rattle.std.specs.Cmp.{booleans_Decides}
 
-none_clear : (flags : List Bool) (from end : ℕ) (r : Bool) → from ≤ end → end ≤ length flags → IsAnyAnswer (λ y t. Decides t (y ≡ false)) (between from end flags) r → Decides (not r) ((o : ℕ) → from ≤ o → o < end → get_or flags o false ≡ true)
+none_clear : (flags : List Bool) (from end : ℕ) (r : Bool) → from ≤ end → end ≤ length flags → IsAnyAnswer (λ y t. beq y false ≡ t) (between from end flags) r → Decides (not r) ((o : ℕ) → from ≤ o → o < end → get_or flags o false ≡ true)
 none_clear flags from end r order room found =
-    let has = contains_decides eqb Decides-eqb (between from end flags) false r found in
+    let has = contains_decides beq booleans_Decides (between from end flags) false r found in
     let size = length-between flags from end room in (
       λ e o low high. ⊎_elim (λ t. t)
           (λ f. let here : from + (o - from) ≡ o = omega arith in

@@ -24,8 +24,8 @@ returns-then-end-gt-ONCE c =
 
 pub returns : goal.returns
 returns c =
-    let means = among c.args.fresh.now c.args.region c.args.span c.set-throughout.result (omega arith) (omega arith) (
-      λ e o low high. c.set-throughout.ensures.0 e o (omega arith) (omega arith),
-      λ all. c.set-throughout.ensures.1 (λ o low high. all o (omega arith) (omega arith)),
+    let means = among c.args.fresh.now c.args.region c.args.span c.set_throughout.result (omega arith) (omega arith) (
+      λ e o low high. c.set_throughout.ensures.0 e o (omega arith) (omega arith),
+      λ all. c.set_throughout.ensures.1 (λ o low high. all o (omega arith) (omega arith)),
     ) in
     record { is = answers _ c.args.span means; zero = λ _. omega arith; inside = λ _. omega arith }

@@ -1,5 +1,5 @@
 use Rattle.std.proofs.Common.{append_assoc, rules}
 use Rattle.script.proofs.replies.put_answer.Goals as goal
 
-pub returns-in-ok-put-decimal : goal.returns-in-ok-put-decimal
-returns-in-ok-put-decimal c = search (rules, append_assoc)
+pub returns-in_ok-put_decimal : goal.returns-in_ok-put_decimal
+returns-in_ok-put_decimal c = search (rules, append_assoc)

@@ -8,7 +8,7 @@ loop-init c = refl
 
 pub loop-preserved : goal.loop-preserved
 unfolding after_words
-loop-preserved c = c.behind-word-rest.ensures ∙ ap after_word c.loop.invariant ∙ ap (λ n. after_words n c.args.text.now) (sym (add-one c.loop.counter))
+loop-preserved c = c.behind_word-rest.ensures ∙ ap after_word c.loop.invariant ∙ ap (λ n. after_words n c.args.text.now) (sym (add-one c.loop.counter))
 
 pub returns : goal.returns
 returns c =

@@ -4,7 +4,7 @@ use Rattle.std.proofs.lemmas.List.{take_all}
 use Rattle.std.proofs.lemmas.List.Sums.{suffix_len-take_yes, suffix_len-take_no}
 use Rattle.text.specs.Lines.{blank}
 use Rattle.text.proofs.lines.blanks_at_end.Goals as goal
-use Rattle.text.proofs.lines.blanks_at_end.Goals.{then-loop-end-test+else-is-blank, else-loop-end-test}
+use Rattle.text.proofs.lines.blanks_at_end.Goals.{then-loop-end-test+else-is_blank, else-loop-end-test}
 
 pub loop-end-init : goal.loop-end-init
 loop-end-init c =
@@ -14,15 +14,15 @@ loop-end-init c =
 pub loop-end-preserved : goal.loop-end-preserved
 loop-end-preserved c =
     let inv = c.loop-end.invariant in
-    let one = suffix_len-take_yes blank c.args.text.now c.loop-end.end 0 c.loop-end-test.true inv.0 (sym c.if-is-blank.ensures) in
+    let one = suffix_len-take_yes blank c.args.text.now c.loop-end.end 0 c.loop-end-test.true inv.0 (sym c.if-is_blank.ensures) in
     (omega arith, omega arith)
 
 pub returns : goal.returns
 returns c =
     let inv = c.loop-end.invariant in
     elim c.loop-end-test.branch [
-      | then-loop-end-test+else-is-blank w ↦
-          let none = suffix_len-take_no blank c.args.text.now c.loop-end.end 0 w.loop-end-test.true inv.0 (sym w.if-is-blank.ensures) in
+      | then-loop-end-test+else-is_blank w ↦
+          let none = suffix_len-take_no blank c.args.text.now c.loop-end.end 0 w.loop-end-test.true inv.0 (sym w.if-is_blank.ensures) in
           record { value = omega arith; bound = omega arith }
       | else-loop-end-test w ↦
           let zero : c.loop-end.end ≡ 0 = omega (arith, w.loop-end-test.false) in

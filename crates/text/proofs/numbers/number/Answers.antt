@@ -5,5 +5,5 @@ use Rattle.text.proofs.numbers.number.Goals as goal
 pub returns : goal.returns
 returns c = search (rules, number_means)
 
-pub returns-then-is-empty : goal.returns-then-is-empty
-returns-then-is-empty c = search (rules, number_means)
+pub returns-then-is_empty : goal.returns-then-is_empty
+returns-then-is_empty c = search (rules, number_means)

@@ -6,12 +6,12 @@ use Rattle.text.proofs.numbers.pairs.Goals as goal
 pub returns-then-digits-ne0 : goal.returns-then-digits-ne0
 returns-then-digits-ne0 c = search (rules, odd_none)
 
-pub returns-in-default : goal.returns-in-default
-returns-in-default c = record { wants = λ _. c.if-digits-ne0.false; gives = sym c.loop-i.invariant ∙ no_pair c.args.digits.now _ (2 * c.loop-i.i) (2 * c.loop-i.i + 2) (omega arith) (omega arith) _ c.pair.ensures c.in-default.is }
+pub returns-in_default : goal.returns-in_default
+returns-in_default c = record { wants = λ _. c.if-digits-ne0.false; gives = sym c.loop-i.invariant ∙ no_pair c.args.digits.now _ (2 * c.loop-i.i) (2 * c.loop-i.i + 2) (omega arith) (omega arith) _ c.pair.ensures c.in_default.is }
 
 pub loop-i-preserved : goal.loop-i-preserved
 loop-i-preserved c =
-    let pushed = c.in-ok-push.ensures.items in
+    let pushed = c.in_ok-push.ensures.items in
     ap (λ l. onto l (pairs_of (drop (2 * (c.loop-i.i + 1)) c.args.digits.now))) pushed
     ∙ a_pair _ _ (2 * c.loop-i.i) _ (omega arith) (omega arith) _ c.pair.ensures _ c.in-Some.is ∙ c.loop-i.invariant
 

@@ -1,4 +1,4 @@
 use Rattle.text.proofs.printing.+put_digits.Given as goal
 
-abbrev pub decreases-put-digits : goal.decreases-put-digits
-decreases-put-digits l = l.number
+abbrev pub decreases-put_digits : goal.decreases-put_digits
+decreases-put_digits l = l.number
