@@ -53,11 +53,11 @@ fn runs_of_bytes(rt: HostRuntime) -> Result<(), Fail> {
 #[test]
 fn words_of_lines(rt: HostRuntime) {
     let line = b" \tscan  0F# 22\t\r\n";
-    assert!(rt; command_part(line) == b" \tscan  0F");
+    assert!(rt; command_part(line) == b" \tscan  0F".as_slice());
     assert!(rt; is_word(command_part(line), 0, b"scan"));
-    assert!(rt; word(command_part(line), 1) == b"0F");
+    assert!(rt; word(command_part(line), 1) == b"0F".as_slice());
     assert!(rt; word(command_part(line), 2).is_empty());
-    assert!(rt; shown_text(line) == b"scan  0F# 22");
-    assert!(rt; shown_text(b"\r\r\n") == b"\r");
+    assert!(rt; shown_text(line) == b"scan  0F# 22".as_slice());
+    assert!(rt; shown_text(b"\r\r\n") == b"\r".as_slice());
     assert!(rt; shown_text(b" \t").is_empty());
 }
