@@ -1,5 +1,5 @@
 -- That the kinds are policies. The trait takes these proofs as values, so they stand here and not among the other proofs.
-use Rattle.std.specs.Prelude.{◌≡◌, ℕ, zero, suc, pred, ◌+◌, ◌-◌, ◌<◌, ◌≤◌, Bool, true, false, ◌≢◌, List, [], ◌∷◌, Decides, ◌==◌, nat_le, nat_lt, slice_index_or, slice_set, refl}
+use Rattle.std.specs.Prelude.{◌≡◌, ℕ, zero, suc, pred, ◌+◌, ◌-◌, ◌<◌, ◌≤◌, Bool, true, false, List, [], ◌∷◌, Decides, ◌==◌, nat_le, nat_lt, slice_index_or, slice_set, refl}
 use Rattle.std.proofs.Common.{sym, ◌∙◌, subst, ⊎_elim, arith}
 use Rattle.policy.specs.Kinds.{alone, append_only_after, append_only_opens, cleared, flagged, free_after, free_opens, one_region, open_from, write_once_after, write_once_opens, written}
 use Rattle.policy.specs.Policies.{all_open, permitted, Lawful, Throughout}

@@ -41,7 +41,7 @@ fn hexadecimal_numbers(rt: HostRuntime) {
 #[test]
 fn runs_of_bytes(rt: HostRuntime) -> Result<(), Fail> {
     let heap = rt.alloc();
-    assert!(rt; bytes(heap, b"0f01D8")?.as_slice() == [0x0f, 0x01, 0xd8]);
+    assert!(rt; bytes(heap, b"0f01D8")?.as_slice() == [0x0f, 0x01, 0xd8].as_slice());
     assert!(rt; bytes(heap, b"-")?.is_empty());
     let refused: [&[u8]; 5] = [b"", b"0", b"0F0", b"0G", b"--"];
     for text in refused {
