@@ -4,6 +4,7 @@
 
 use script::session::Session;
 use std::io::{BufRead, BufReader, Read, Write};
+use std::process::ExitCode;
 use std::{env, fs};
 
 // Each line is carried out and answered before the next is read.
@@ -28,14 +29,15 @@ fn carry_out<R: Read + Drop>(rt: &HostRuntime, script: R) -> anyhow::Result<()> 
 }
 
 // Says why a script was not carried out to its end.
-fn tell(rt: &HostRuntime, outcome: anyhow::Result<()>) -> anyhow::Result<()> {
-    if let Err(e) = &outcome {
-        eprintln!(rt; "console: stopped before the end of the script: {e}")?;
-    }
-    outcome
+fn tell(rt: &HostRuntime, outcome: anyhow::Result<()>) -> anyhow::Result<ExitCode> {
+    let Err(e) = outcome else {
+        return Ok(ExitCode::SUCCESS);
+    };
+    eprintln!(rt; "console: stopped before the end of the script: {e}")?;
+    Ok(ExitCode::FAILURE)
 }
 
-fn main(rt: HostRuntime) -> anyhow::Result<()> {
+fn main(rt: HostRuntime) -> anyhow::Result<ExitCode> {
     let Some(path) = env::args(&rt)?.nth(1) else {
         return tell(&rt, carry_out(&rt, rt.stdin()));
     };
@@ -45,7 +47,7 @@ fn main(rt: HostRuntime) -> anyhow::Result<()> {
             eprintln!(rt;
                 "console: cannot open {path}: {e}. Name a script that can be read, or none to read standard input."
             )?;
-            Err(e.into())
+            Ok(ExitCode::FAILURE)
         }
     }
 }

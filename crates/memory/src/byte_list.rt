@@ -27,7 +27,7 @@ pub fn frames(list: &[u8]) -> u64
     whole_frames(list).min(MOST_FRAMES)
 }
 
-// How many words the list shows: `set` from there on changes none of them.
+// How many words the list shows: `slice_set` from there on changes none of them.
 fn count(list: &[u8]) -> u64
     ensures is { result ≡ 512 * frames_in 4096 list.now }
     ensures all { result ≡ length (words_of list.now) }

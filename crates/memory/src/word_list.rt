@@ -14,7 +14,7 @@ pub fn frames(list: &[u64]) -> u64
     (list.len() as u64 / FRAME_WORDS).min(MOST_FRAMES)
 }
 
-// How many words the list shows: `set` from there on changes none of them.
+// How many words the list shows: `slice_set` from there on changes none of them.
 fn count(list: &[u64]) -> u64
     ensures is { result ≡ 512 * frames_in 512 list.now }
     ensures all { result ≡ length (shown list.now) }

@@ -45,7 +45,7 @@ Outside low high b = low ≤ b → b ≤ high → ⊥
 abbrev pub NoneLoads : ℕ → Type 0
 NoneLoads b = Outside 24 31 b × Outside 88 95 b × Outside 152 159 b
 
--- the rule of every place k; past the run's end `get_or` reads 0, which is none of the bytes named here
+-- the rule of every place k; past the run's end `slice_index` reads 0, which is none of the bytes named here
 pub record Clean (bs : List ℕ) : Type 0 where
   -- after 0F stands neither 22 nor 30
   pub no_write : (k : ℕ) → slice_index bs k ≡ 15 → (slice_index bs (suc k) ≢ 34) × (slice_index bs (suc k) ≢ 48)

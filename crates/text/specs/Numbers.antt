@@ -4,7 +4,7 @@
 --   Number          that a word is such a number
 --   bytes_of        the bytes that a word of hexadecimal digits writes, two digits to a byte
 --
--- `digitValue`, `Numeral` and `value` are the library's: a digit in either case, one digit or more, what the digits write.
+-- `digit_value`, `IsNumeral` and `digits_value` are the library's: a digit in either case, one digit or more, what the digits write.
 use Rattle.std.specs.Prelude.{ℕ, ◌+◌, ◌*◌, ◌^◌, ◌<◌, cond, ◌&&◌, List, [], ◌∷◌, length, Some, None, codes, Option, ◌==◌, nat_lt}
 use Rattle.std.specs.Str.Parse.{IsNumeral, digits_value}
 use Rattle.std.specs.Char.{digit_value}
