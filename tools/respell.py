@@ -2,7 +2,8 @@
 """Brings the names of this repository's definitions and lemmas to one spelling: words in snake case, types in camel case,
 and a dash only between two names, as in `length-words_of`. Run once at the top of the repository, after the kit's port.py.
 
-Names of functions in src/, strings, inputs and outputs are left alone."""
+It goes by whole names: no function of src/, string, input or output has one of these. `behind-set` and `shown-set` stay, since
+their dash joins two names."""
 
 import glob
 import re
@@ -22,9 +23,6 @@ OTHERWISE = {
     "length-put": "length-put_word",
     "words-length": "length-words_of",
 }
-
-# Names in which the dash joins two names.
-KEPT = ["behind-set", "shown-set"]
 
 # Definitions, lemmas, fields and parameters, by crate.
 PLAIN = """

@@ -8,21 +8,21 @@ use Rattle.text.specs.Layout.{Blank, Word, Apart, Begins, Laid}
 use Rattle.text.specs.Lines.{blank, belongs, unindented, first_word, after_word, after_words, word_at}
 
 -- a run goes on over a front that belongs to it
-leading_front : (p : ℕ → Bool) (xs ys : List ℕ) → AllByRecursion (λ b. p b ≡ true) xs → prefix_len p (xs ++ ys) ≡ length xs + prefix_len p ys
-leading_front p [] ys all = omega arith
-leading_front p (x ∷ xs) ys all = ap (λ b. cond b (1 + prefix_len p (xs ++ ys)) 0) all.0 ∙ omega (arith, leading_front p xs ys all.1)
+prefix_len_front : (p : ℕ → Bool) (xs ys : List ℕ) → AllByRecursion (λ b. p b ≡ true) xs → prefix_len p (xs ++ ys) ≡ length xs + prefix_len p ys
+prefix_len_front p [] ys all = omega arith
+prefix_len_front p (x ∷ xs) ys all = ap (λ b. cond b (1 + prefix_len p (xs ++ ys)) 0) all.0 ∙ omega (arith, prefix_len_front p xs ys all.1)
 
 -- and ends where the next byte does not
-leading_stop : (p : ℕ → Bool) (b : ℕ) (bs : List ℕ) → p b ≡ false → prefix_len p (b ∷ bs) ≡ 0
-leading_stop p b bs e = ap (λ c. cond c (1 + prefix_len p bs) 0) e
+prefix_len_stop : (p : ℕ → Bool) (b : ℕ) (bs : List ℕ) → p b ≡ false → prefix_len p (b ∷ bs) ≡ 0
+prefix_len_stop p b bs e = ap (λ c. cond c (1 + prefix_len p bs) 0) e
 
 letters_stop : (rest : List ℕ) → Apart rest → prefix_len (belongs Letters) rest ≡ 0
 letters_stop [] a = refl
-letters_stop (b ∷ bs) a = leading_stop (belongs Letters) b bs (not_from_true (blank b) a)
+letters_stop (b ∷ bs) a = prefix_len_stop (belongs Letters) b bs (not_from_true (blank b) a)
 
 blanks_stop : (w rest : List ℕ) → Word w → prefix_len (belongs Blanks) (w ++ rest) ≡ 0
 blanks_stop [] rest h = absurd (omega (arith, h.0))
-blanks_stop (b ∷ bs) rest h = leading_stop (belongs Blanks) b (bs ++ rest) h.1.0
+blanks_stop (b ∷ bs) rest h = prefix_len_stop (belongs Blanks) b (bs ++ rest) h.1.0
 
 letters_of : (w : List ℕ) → AllByRecursion (λ b. blank b ≡ false) w → AllByRecursion (λ b. belongs Letters b ≡ true) w
 letters_of [] all = tt
@@ -31,11 +31,11 @@ letters_of (b ∷ bs) all = (not_from_false (blank b) all.0, letters_of bs all.1
 module _ (w rest t : List ℕ) (b : Begins w rest t) where
   starts : unindented t ≡ w ++ rest
   starts =
-      let n : prefix_len (belongs Blanks) (b.gap ++ (w ++ rest)) ≡ length b.gap = leading_front (belongs Blanks) b.gap (w ++ rest) b.blanks ∙ omega (arith, blanks_stop w rest b.letters) in
+      let n : prefix_len (belongs Blanks) (b.gap ++ (w ++ rest)) ≡ length b.gap = prefix_len_front (belongs Blanks) b.gap (w ++ rest) b.blanks ∙ omega (arith, blanks_stop w rest b.letters) in
       ap unindented b.whole ∙ drop_at b.gap (w ++ rest) _ (sym n)
 
   ends : prefix_len (belongs Letters) (w ++ rest) ≡ length w
-  ends = leading_front (belongs Letters) w rest (letters_of w b.letters.1) ∙ omega (arith, letters_stop rest b.apart)
+  ends = prefix_len_front (belongs Letters) w rest (letters_of w b.letters.1) ∙ omega (arith, letters_stop rest b.apart)
 
   first_found : first_word t ≡ w
   first_found = ap (λ l. take (prefix_len (belongs Letters) l) l) starts ∙ take_at w rest _ (sym ends)

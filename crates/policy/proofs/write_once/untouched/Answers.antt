@@ -9,9 +9,9 @@ use Rattle.std.proofs.lemmas.Bool.{false≢true}
 use Rattle.std.proofs.lemmas.Bool.Decides.{nat_tests}
 
 among : (flags : List Bool) (region : ℕ) (span : Span) (r : Bool) → region ≡ 0 → span.offset + span.length ≤ 4096 → Decides r ((o : ℕ) → span.offset ≤ o → o < span.offset + span.length → get_or flags o false ≡ true) → Decides r (Throughout (alone (flagged flags) region) span.offset span.length)
-among flags region span r zero room AllSet = (
-  λ e o low high. let here = AllSet.0 e o low high in grind (arith, nat_tests),
-  λ all. AllSet.1 (λ o low high. let here = all o low high in grind (arith, nat_tests)),
+among flags region span r zero room all_set = (
+  λ e o low high. let here = all_set.0 e o low high in grind (arith, nat_tests),
+  λ all. all_set.1 (λ o low high. let here = all o low high in grind (arith, nat_tests)),
 )
 
 pub returns-then-region-ne0 : goal.returns-then-region-ne0
