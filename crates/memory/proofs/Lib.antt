@@ -1,3 +1,2 @@
 -- Lemmas of this crate.
 mod Bytewise
-mod Shown

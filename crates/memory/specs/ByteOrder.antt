@@ -6,13 +6,11 @@
 --   bytes_of     the eight bytes of a word
 --   put_word     a list with a word put into it
 --   write_bytes  a list after a write
---   bytes_laws   that what a list of bytes shows is a memory
 --   ByteOrder    that byte j of word i is the list's byte 8 * i + j
-use Rattle.std.specs.Prelude.{◌≡◌, ℕ, ◌+◌, ◌*◌, ◌/◌, ◌%◌, ◌^◌, ◌<◌, cond, List, [], ◌∷◌, ◌++◌, map, length, take, drop, nat_lt, slice_index}
-use Rattle.std.proofs.Common.{arith}
-use Rattle.std.proofs.lemmas.List.FromFn.{length-map-range_with_len}
+use Rattle.std.specs.Prelude.{◌≡◌, ℕ, ◌+◌, ◌*◌, ◌/◌, ◌%◌, ◌^◌, ◌<◌, List, [], ◌∷◌, map, length, slice_index}
 use Rattle.std.specs.List.{range_with_len}
-use Rattle.memory.specs.Memories.{frames_in, Lawful}
+use Rattle.memory.specs.Items.{laid}
+use Rattle.memory.specs.Memories.{frames_in, written}
 
 -- Byte j of word i.
 abbrev pub byte_at : List ℕ → ℕ → ℕ → ℕ
@@ -36,19 +34,11 @@ bytes_of w =
 
 -- The list with the bytes of w in the place of word i, and all else as it was.
 abbrev pub put_word : List ℕ → ℕ → ℕ → List ℕ
-put_word list i w = take (8 * i) list ++ (bytes_of w ++ drop (8 * i + 8) list)
+put_word list i w = laid 8 list i (bytes_of w)
 
--- A list after a write of one word: only a word that is shown is replaced.
+-- A list of bytes after a write of one word.
 abbrev pub write_bytes : List ℕ → ℕ → ℕ → List ℕ
-write_bytes list index value = cond (nat_lt index (512 * frames_in 4096 list)) (put_word list index value) list
-
--- Whatever holds a list of bytes is a memory by the words of that list.
-pub bytes_laws : {Self : Type 0} (list : Self → List ℕ) → Lawful (λ m. words_of (list m)) (λ m. frames_in 4096 (list m))
-unfolding words_of
-bytes_laws list = record {
-  whole = λ m. length-map-range_with_len (word_of (list m)) 0 (512 * frames_in 4096 (list m));
-  few = λ m. omega arith;
-}
+write_bytes = written 8 put_word
 
 -- Byte j of a word that a list of bytes shows, which is w / 256 ^ j % 256 of the word w, lies j places behind its first.
 abbrev pub ByteOrder : Type 0

@@ -1,3 +1,6 @@
 -- What the contracts of this crate speak of.
 pub mod Memories
+pub mod Items
 pub mod ByteOrder
+pub mod WordLaws
+pub mod ByteLaws

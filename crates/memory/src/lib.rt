@@ -2,9 +2,9 @@
 
 #![tactic(auto)]
 
-pub mod byte_list;
+pub mod items;
 pub mod kinds;
+pub mod list;
 #[cfg(test)]
 mod tests;
 pub mod traits;
-pub mod word_list;

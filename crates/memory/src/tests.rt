@@ -1,14 +1,16 @@
 // Memories on examples: no frame, one frame, more frames than are shown, and the order of bytes.
 
 ghost use Rattle.std.specs.Prelude.{◌≡◌};
+ghost use Rattle.memory.specs.ByteOrder.{write_bytes};
 ghost use Rattle.memory.specs.Memories.{write_word};
 
-use crate::kinds::{Bytes, Words};
+use crate::items::Item;
+use crate::kinds::{Bytes, Lent, Words};
 use crate::traits::Memory;
 use std::process::Abort;
 use std::test::Fail;
 
-// A lender of a list knows what was written into it.
+// A lender of a list knows what was written into it,
 fn write_two(list: &mut [u64])
     ensures { list.new ≡ write_word (write_word list.old 0 5) 1 6 }
 {
@@ -17,7 +19,16 @@ fn write_two(list: &mut [u64])
     let _ = memory.write(1, 6);
 }
 
-// The memory has words up to `past`, and none from there on.
+// of a list of bytes as well.
+fn write_two_of_bytes(list: &mut [u8])
+    ensures { list.new ≡ write_bytes (write_bytes list.old 0 5) 1 6 }
+{
+    let mut memory = Bytes::new(list);
+    let _ = memory.write(0, 5);
+    let _ = memory.write(1, 6);
+}
+
+// The memory has words up to `last`, and none from `past` on.
 fn ends<M: Memory>(rt: &impl Abort, memory: &mut M, last: u64, past: u64) {
     assert!(rt; memory.write(last, 5));
     assert_eq!(rt; memory.read(last), Some(5));
@@ -27,53 +38,65 @@ fn ends<M: Memory>(rt: &impl Abort, memory: &mut M, last: u64, past: u64) {
     assert_eq!(rt; memory.read(u64::MAX), None);
 }
 
-#[test]
-fn no_frame_of_words(rt: HostRuntime) -> Result<(), Fail> {
-    assert_eq!(rt; Words::new(&mut []).frames(), 0);
-    let mut list = vec![in rt.alloc(); 7; 511]?;
-    let mut memory = Words::new(list.as_mut_slice());
+// The list is too short for a frame: it shows nothing, and stays as it is.
+fn no_frame<T: Item<N> + PartialEq, const N: usize>(rt: &impl Abort, list: &mut [T], same: &[T]) {
+    assert_eq!(rt; Lent::new(&mut list[..0]).frames(), 0);
+    let mut memory = Lent::new(list);
     assert_eq!(rt; memory.frames(), 0);
     assert_eq!(rt; memory.read(0), None);
     assert!(rt; !memory.write(0, 1));
-    assert!(rt; list == vec![in rt.alloc(); 7; 511]?);
+    assert!(rt; &*list == same);
+}
+
+// The list shows so many frames, and no word behind them.
+fn some_frames<T: Item<N>, const N: usize>(
+    rt: &impl Abort,
+    list: &mut [T],
+    frames: u64,
+    past: u64,
+) {
+    let mut memory = Lent::new(list);
+    assert_eq!(rt; memory.frames(), frames);
+    ends(rt, &mut memory, past.saturating_sub(1), past);
+}
+
+#[test]
+fn no_frame_of_words(rt: HostRuntime) -> Result<(), Fail> {
+    let mut list = vec![in rt.alloc(); 7u64; 511]?;
+    let same = list.clone()?;
+    no_frame(&rt, list.as_mut_slice(), same.as_slice());
     Ok(())
 }
 
 #[test]
 fn no_frame_of_bytes(rt: HostRuntime) -> Result<(), Fail> {
-    assert_eq!(rt; Bytes::new(&mut []).frames(), 0);
-    let mut list = vec![in rt.alloc(); 7; 4095]?;
-    let mut memory = Bytes::new(list.as_mut_slice());
-    assert_eq!(rt; memory.frames(), 0);
-    assert_eq!(rt; memory.read(0), None);
-    assert!(rt; !memory.write(0, 1));
-    assert!(rt; list == vec![in rt.alloc(); 7; 4095]?);
+    let mut list = vec![in rt.alloc(); 7u8; 4095]?;
+    let same = list.clone()?;
+    no_frame(&rt, list.as_mut_slice(), same.as_slice());
     Ok(())
 }
 
 #[test]
 fn one_frame(rt: HostRuntime) -> Result<(), Fail> {
-    let mut words = vec![in rt.alloc(); 0; 513]?;
-    let mut memory = Words::new(words.as_mut_slice());
-    assert_eq!(rt; memory.frames(), 1);
-    ends(&rt, &mut memory, 511, 512);
-    let mut bytes = vec![in rt.alloc(); 0; 4104]?;
-    let mut memory = Bytes::new(bytes.as_mut_slice());
-    assert_eq!(rt; memory.frames(), 1);
-    ends(&rt, &mut memory, 511, 512);
+    some_frames(&rt, vec![in rt.alloc(); 0u64; 513]?.as_mut_slice(), 1, 512);
+    some_frames(&rt, vec![in rt.alloc(); 0u8; 4104]?.as_mut_slice(), 1, 512);
     Ok(())
 }
 
 #[test]
 fn too_many_frames(rt: HostRuntime) -> Result<(), Fail> {
-    let mut words = vec![in rt.alloc(); 0; 257 * 512]?;
-    let mut memory = Words::new(words.as_mut_slice());
-    assert_eq!(rt; memory.frames(), 256);
-    ends(&rt, &mut memory, 131071, 131072);
-    let mut bytes = vec![in rt.alloc(); 0; 257 * 4096]?;
-    let mut memory = Bytes::new(bytes.as_mut_slice());
-    assert_eq!(rt; memory.frames(), 256);
-    ends(&rt, &mut memory, 131071, 131072);
+    some_frames(
+        &rt,
+        vec![in rt.alloc(); 0u64; 257 * 512]?.as_mut_slice(),
+        256,
+        131072,
+    );
+    some_frames(
+        &rt,
+        vec![in rt.alloc(); 0u8; 257 * 4096]?.as_mut_slice(),
+        256,
+        131072,
+    );
     Ok(())
 }
 
@@ -97,5 +120,10 @@ fn lent_list(rt: HostRuntime) -> Result<(), Fail> {
     let slice = list.as_slice();
     assert!(rt; slice.len() == 512);
     assert!(rt; slice[0] == 5 && slice[1] == 6);
+    let mut list = vec![in rt.alloc(); 0; 4096]?;
+    write_two_of_bytes(list.as_mut_slice());
+    let slice = list.as_slice();
+    assert!(rt; slice.len() == 4096);
+    assert!(rt; slice[0] == 5 && slice[8] == 6);
     Ok(())
 }

@@ -1,0 +1,91 @@
+// What a memory's list is made of: words, or the bytes of words.
+
+ghost use Rattle.std.specs.Prelude.{◌≡◌, ℕ, List, [], ◌∷◌, slice_set};
+ghost use Rattle.memory.specs.ByteLaws.{first, byte_laws};
+ghost use Rattle.memory.specs.ByteOrder.{words_of, bytes_of, put_word, ByteOrder};
+ghost use Rattle.memory.specs.Items.{Shows};
+ghost use Rattle.memory.specs.Memories.{shown};
+ghost use Rattle.memory.specs.WordLaws.{sole, word_laws};
+
+// An item of a list, where each word is N of them.
+pub trait Item<const N: usize>: Copy {
+    // The word that so many items make.
+    ghost word_in: { List Self → ℕ };
+
+    // The items of a word.
+    ghost items_of: { ℕ → List Self };
+
+    // The words of the whole frames of a list.
+    ghost words: { List Self → List ℕ };
+
+    // A list with a word put into it.
+    ghost put: { List Self → ℕ → ℕ → List Self };
+
+    // What holds of all of these.
+    ghost laws: { Shows N word_in items_of words put };
+
+    // The word that the items make.
+    fn word(items: [Self; N]) -> u64
+        ensures { result ≡ word_in items };
+
+    // The items of the word.
+    fn items(word: u64) -> [Self; N]
+        ensures { result ≡ items_of word };
+}
+
+impl Item<1> for u64 {
+    ghost word_in = { sole };
+
+    ghost items_of = { λ w. w ∷ [] };
+
+    ghost words = { shown };
+
+    ghost put = { slice_set };
+
+    ghost laws = { word_laws };
+
+    fn word(items: [u64; 1]) -> u64
+        ensures { result ≡ sole items }
+    {
+        let [word] = items;
+        word
+    }
+
+    fn items(word: u64) -> [u64; 1]
+        ensures { result ≡ word ∷ [] }
+    {
+        [word]
+    }
+}
+
+impl Item<8> for u8 {
+    ghost word_in = { first };
+
+    ghost items_of = { bytes_of };
+
+    ghost words = { words_of };
+
+    ghost put = { put_word };
+
+    ghost laws = { byte_laws };
+
+    #[tactic(auto, unfolding(crate::specs::ByteOrder::word_of))]
+    fn word(items: [u8; 8]) -> u64
+        ensures { result ≡ first items }
+    {
+        u64::from_le_bytes(items)
+    }
+
+    fn items(word: u64) -> [u8; 8]
+        ensures { result ≡ bytes_of word }
+    {
+        word.to_le_bytes()
+    }
+}
+
+// The order of bytes: a word begins with its low byte.
+pub fn byte_order_stands() -> u8
+    ensures { ByteOrder }
+{
+    0
+}
