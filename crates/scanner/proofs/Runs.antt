@@ -3,8 +3,7 @@
 use Rattle.std.proofs.Common.{◌≡◌, ℕ, ◌+◌, ◌<◌, ◌≤◌, Bool, true, false, cond, List, [], ◌∷◌, ◌++◌, length, get_or, drop, sym, refl, ap, ◌∙◌}
 use Rattle.scanner.proofs.Means.{fed}
 use Rattle.scanner.specs.Classes.{class_of}
-use Rattle.memory.specs.ByteOrder.{bytes_of}
-use Rattle.scanner.specs.Rule.{bytes_of_words}
+use Rattle.scanner.specs.Codes.{IsCode}
 use Rattle.scanner.specs.States.{Fed, step, feed_all}
 use Rattle.scanner.specs.declared.scan.State.{State}
 use Rattle.std.proofs.lemmas.List.{drop_all, drop_more}
@@ -64,14 +63,17 @@ fed_byte s t b r e = fed s (b ∷ []) r t (e ∙ alone (step s (class_of b)))
     alone (true, u) = refl
     alone (false, u) = refl
 
--- the bytes of the words from the place i on: those of the word there, then the rest
-pub words_more :
-    (ws : List ℕ) (i : ℕ) → i < length ws →
-    bytes_of_words (drop i ws) ≡ bytes_of (get_or ws i 0) ++ bytes_of_words (drop (i + 1) ws)
-unfolding bytes_of_words
-words_more ws i h = ap bytes_of_words (drop_more ws i 0 h)
+-- the bytes of the items from the place i on: those of the item x there, then the rest
+pub items_more :
+    {Item : Type 0} {bytes : Item → List ℕ} {run : List Item → List ℕ} → IsCode bytes run →
+    (items : List Item) (i : ℕ) (x : Item) → i < length items → x ≡ get_or items i x →
+    run (drop i items) ≡ bytes x ++ run (drop (i + 1) items)
+items_more {bytes = bytes} {run = run} code items i x h is =
+    ap run (drop_more items i x h) ∙ code.more (get_or items i x) (drop (i + 1) items) ∙
+    ap (λ y. bytes y ++ run (drop (i + 1) items)) (sym is)
 
--- past the last word there are none
-pub words_none : (ws : List ℕ) (i : ℕ) → length ws ≤ i → bytes_of_words (drop i ws) ≡ []
-unfolding bytes_of_words
-words_none ws i h = ap bytes_of_words (drop_all i ws h)
+-- past the last item there are none
+pub items_none :
+    {Item : Type 0} {bytes : Item → List ℕ} {run : List Item → List ℕ} → IsCode bytes run →
+    (items : List Item) (i : ℕ) → length items ≤ i → run (drop i items) ≡ []
+items_none {run = run} code items i h = ap run (drop_all i items h) ∙ code.none

@@ -1,8 +1,20 @@
 -- The class that the rule gives each byte.
--- Names: `class_of`.
+--
+--   class_of    the class of a byte
+--   number_of   the number of a class
 use Rattle.std.specs.Prelude.{ℕ, cond}
 use Rattle.scanner.specs.Rule.{lead, group, writes, loads}
+use Rattle.scanner.specs.declared.classes.ByteClass.{ByteClass}
+use Rattle.scanner.specs.declared.classes.ByteClass.TheVariants.{Other, Lead, Writes, Group, Loads}
+
+-- 0F, a byte that writes after it, 01, a byte that loads after 0F 01, or any other
+abbrev pub class_of : ℕ → ByteClass
+class_of b = cond (lead b) Lead (cond (writes b) Writes (cond (group b) Group (cond (loads b) Loads Other)))
 
 -- 1 for 0F, 2 for a byte that writes after it, 3 for 01, 4 for a byte that loads after 0F 01, else 0
-abbrev pub class_of : ℕ → ℕ
-class_of b = cond (lead b) 1 (cond (writes b) 2 (cond (group b) 3 (cond (loads b) 4 0)))
+abbrev pub number_of : ByteClass → ℕ
+number_of Other = 0
+number_of Lead = 1
+number_of Writes = 2
+number_of Group = 3
+number_of Loads = 4

@@ -2,6 +2,8 @@
 -- Names: `seen`, `forbids`, `next`, `step`, `Stands`, `feed_all`, `Fed`.
 use Rattle.std.specs.Prelude.{◌≡◌, ℕ, Bool, true, false, cond, ◌&&◌, List, [], ◌∷◌, ◌++◌, Decides, ◌==◌}
 use Rattle.scanner.specs.Classes.{class_of}
+use Rattle.scanner.specs.declared.classes.ByteClass.{ByteClass}
+use Rattle.scanner.specs.declared.classes.ByteClass.TheVariants as class
 use Rattle.scanner.specs.Rule.{passing, Clean}
 use Rattle.scanner.specs.declared.scan.State.{State}
 use Rattle.scanner.specs.declared.scan.State.TheVariants.{Nothing, Lead, Group}
@@ -13,23 +15,23 @@ seen Lead = 15 ∷ []
 seen Group = 15 ∷ 1 ∷ []
 
 -- a byte of this class completes a forbidden sequence
-abbrev pub forbids : State → ℕ → Bool
-forbids Nothing c = false
-forbids Lead c = c == 2
-forbids Group c = c == 4
+abbrev pub forbids : State → ByteClass → Bool
+forbids Lead class.Writes = true
+forbids Group class.Loads = true
+forbids s c = false
 
 -- the state after a byte of this class that completes none
-abbrev pub next : State → ℕ → State
-next Nothing c = cond (c == 1) Lead Nothing
-next Lead c = cond (c == 1) Lead (cond (c == 3) Group Nothing)
-next Group c = cond (c == 1) Lead Nothing
+abbrev pub next : State → ByteClass → State
+next s class.Lead = Lead
+next Lead class.Group = Group
+next s c = Nothing
 
 -- one byte of a class: whether the scan goes on, and the state after, which a refusal leaves as it was
-abbrev pub step : State → ℕ → Bool × State
+abbrev pub step : State → ByteClass → Bool × State
 step s c = cond (forbids s c) (false, s) (true, next s c)
 
 -- the class c stands for the byte b: in each state, and whatever follows, the step by c keeps the rule's answer
-abbrev pub Stands : ℕ → ℕ → Type 0
+abbrev pub Stands : ℕ → ByteClass → Type 0
 Stands b c = (s : State) (xs : List ℕ) → passing (seen s ++ (b ∷ xs)) ≡ ((step s c).0 && passing (seen (step s c).1 ++ xs))
 
 -- a run of bytes: whether all went on, and the state after the last that was fed

@@ -1,58 +1,93 @@
 // The class of each byte, in one table.
 
 ghost use Rattle.std.specs.Prelude.{◌≡◌, ◌<◌, map};
-ghost use Rattle.scanner.specs.Classes.{class_of};
-ghost use Rattle.scanner.specs.States.{Stands};
 ghost use Rattle.std.specs.List.{range_with_len};
+ghost use Rattle.scanner.specs.Classes.{class_of, number_of};
+ghost use Rattle.scanner.specs.States.{Stands};
 
-// 0F, the byte that every forbidden sequence begins with.
-pub const LEAD: u8 = 1;
-// 22 and 30: after 0F, a write of a control register or of a model-specific register.
-pub const WRITES: u8 = 2;
-// 01: after 0F, a group of instructions, of which a third byte picks one.
-pub const GROUP: u8 = 3;
-// 18 to 1F, 58 to 5F and 98 to 9F: after 0F 01, a load of the interrupt table register.
-pub const LOADS: u8 = 4;
+// What a byte can be to a forbidden sequence.
+#[derive(Clone, Copy, Debug, PartialEq, Eq)]
+pub enum ByteClass {
+    // None of the below.
+    Other,
+    // 0F, the byte that every forbidden sequence begins with.
+    Lead,
+    // 22 and 30: after 0F, a write of a control register or of a model-specific register.
+    Writes,
+    // 01: after 0F, a group of instructions, of which a third byte picks one.
+    Group,
+    // 18 to 1F, 58 to 5F and 98 to 9F: after 0F 01, a load of the interrupt table register.
+    Loads,
+}
 
-// The class of each byte, from 00 to FF; 0 is a byte of none of the classes above.
-const CLASSES: [u8; 256] = [
-    0, 3, // 01
-    0, 0, 0, 0, 0, 0, 0, 0, 0, 0, 0, 0, 0, 1, // 0F
-    0, 0, 0, 0, 0, 0, 0, 0, 4, // 18
-    4, // 19
-    4, // 1A
-    4, // 1B
-    4, // 1C
-    4, // 1D
-    4, // 1E
-    4, // 1F
-    0, 0, 2, // 22
-    0, 0, 0, 0, 0, 0, 0, 0, 0, 0, 0, 0, 0, 2, // 30
-    0, 0, 0, 0, 0, 0, 0, 0, 0, 0, 0, 0, 0, 0, 0, 0, 0, 0, 0, 0, 0, 0, 0, 0, 0, 0, 0, 0, 0, 0, 0, 0,
-    0, 0, 0, 0, 0, 0, 0, 4, // 58
-    4, // 59
-    4, // 5A
-    4, // 5B
-    4, // 5C
-    4, // 5D
-    4, // 5E
-    4, // 5F
-    0, 0, 0, 0, 0, 0, 0, 0, 0, 0, 0, 0, 0, 0, 0, 0, 0, 0, 0, 0, 0, 0, 0, 0, 0, 0, 0, 0, 0, 0, 0, 0,
-    0, 0, 0, 0, 0, 0, 0, 0, 0, 0, 0, 0, 0, 0, 0, 0, 0, 0, 0, 0, 0, 0, 0, 0, 4, // 98
-    4, // 99
-    4, // 9A
-    4, // 9B
-    4, // 9C
-    4, // 9D
-    4, // 9E
-    4, // 9F
-    0, 0, 0, 0, 0, 0, 0, 0, 0, 0, 0, 0, 0, 0, 0, 0, 0, 0, 0, 0, 0, 0, 0, 0, 0, 0, 0, 0, 0, 0, 0, 0,
-    0, 0, 0, 0, 0, 0, 0, 0, 0, 0, 0, 0, 0, 0, 0, 0, 0, 0, 0, 0, 0, 0, 0, 0, 0, 0, 0, 0, 0, 0, 0, 0,
-    0, 0, 0, 0, 0, 0, 0, 0, 0, 0, 0, 0, 0, 0, 0, 0, 0, 0, 0, 0, 0, 0, 0, 0, 0, 0, 0, 0, 0, 0, 0, 0,
+// The number of a class.
+impl From<ByteClass> for u8 {
+    ghost from_gives = { λ class number. number ≡ number_of class };
+
+    fn from(class: ByteClass) -> u8 {
+        match class {
+            ByteClass::Other => 0,
+            ByteClass::Lead => 1,
+            ByteClass::Writes => 2,
+            ByteClass::Group => 3,
+            ByteClass::Loads => 4,
+        }
+    }
+}
+
+use ByteClass::{Group, Lead, Loads, Other, Writes};
+
+// The class of each byte, from 00 to FF.
+const CLASSES: [ByteClass; 256] = [
+    Other, Group, // 01
+    Other, Other, Other, Other, Other, Other, Other, Other, Other, Other, Other, Other, Other,
+    Lead, // 0F
+    Other, Other, Other, Other, Other, Other, Other, Other, Loads, // 18
+    Loads, // 19
+    Loads, // 1A
+    Loads, // 1B
+    Loads, // 1C
+    Loads, // 1D
+    Loads, // 1E
+    Loads, // 1F
+    Other, Other, Writes, // 22
+    Other, Other, Other, Other, Other, Other, Other, Other, Other, Other, Other, Other, Other,
+    Writes, // 30
+    Other, Other, Other, Other, Other, Other, Other, Other, Other, Other, Other, Other, Other,
+    Other, Other, Other, Other, Other, Other, Other, Other, Other, Other, Other, Other, Other,
+    Other, Other, Other, Other, Other, Other, Other, Other, Other, Other, Other, Other, Other,
+    Loads, // 58
+    Loads, // 59
+    Loads, // 5A
+    Loads, // 5B
+    Loads, // 5C
+    Loads, // 5D
+    Loads, // 5E
+    Loads, // 5F
+    Other, Other, Other, Other, Other, Other, Other, Other, Other, Other, Other, Other, Other,
+    Other, Other, Other, Other, Other, Other, Other, Other, Other, Other, Other, Other, Other,
+    Other, Other, Other, Other, Other, Other, Other, Other, Other, Other, Other, Other, Other,
+    Other, Other, Other, Other, Other, Other, Other, Other, Other, Other, Other, Other, Other,
+    Other, Other, Other, Other, Loads, // 98
+    Loads, // 99
+    Loads, // 9A
+    Loads, // 9B
+    Loads, // 9C
+    Loads, // 9D
+    Loads, // 9E
+    Loads, // 9F
+    Other, Other, Other, Other, Other, Other, Other, Other, Other, Other, Other, Other, Other,
+    Other, Other, Other, Other, Other, Other, Other, Other, Other, Other, Other, Other, Other,
+    Other, Other, Other, Other, Other, Other, Other, Other, Other, Other, Other, Other, Other,
+    Other, Other, Other, Other, Other, Other, Other, Other, Other, Other, Other, Other, Other,
+    Other, Other, Other, Other, Other, Other, Other, Other, Other, Other, Other, Other, Other,
+    Other, Other, Other, Other, Other, Other, Other, Other, Other, Other, Other, Other, Other,
+    Other, Other, Other, Other, Other, Other, Other, Other, Other, Other, Other, Other, Other,
+    Other, Other, Other, Other, Other,
 ];
 
 // The class of a byte.
-pub fn class(byte: u8) -> u8
+pub fn class(byte: u8) -> ByteClass
     ensures is { result ≡ class_of byte }
     ensures stands { Stands byte result }
 {
@@ -60,7 +95,7 @@ pub fn class(byte: u8) -> u8
 }
 
 // An entry of the table.
-fn entry(index: usize) -> u8
+fn entry(index: usize) -> ByteClass
     requires { index < 256 }
     ensures is { result ≡ class_of index }
     ensures stands { Stands index result }
@@ -69,7 +104,7 @@ fn entry(index: usize) -> u8
 }
 
 // The table, which is the rule of the classes computed at every byte.
-fn table() -> &'static [u8; 256]
+fn table() -> &'static [ByteClass; 256]
     ensures { result.now ≡ map class_of (range_with_len 0 256) }
 {
     &CLASSES

@@ -6,11 +6,11 @@
 #![tactic(auto)]
 
 pub mod classes;
+pub mod code;
 pub mod scan;
 #[cfg(test)]
 mod tests;
 
-pub use classes::class;
-pub use scan::bytes::passes;
-pub use scan::words::passes_words;
-pub use scan::{Scanner, State};
+pub use classes::{ByteClass, class};
+pub use code::{Code, passes};
+pub use scan::{Forbidden, Scanner, State};

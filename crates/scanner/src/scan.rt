@@ -1,18 +1,19 @@
 // The scanner: its states, and one byte.
 
-pub mod bytes;
-pub mod words;
-
-ghost use Rattle.std.specs.Prelude.{◌≡◌, ℕ, ◌&&◌, List, ◌∷◌, ◌++◌};
+ghost use Rattle.std.specs.Prelude.{◌≡◌, ℕ, ◌&&◌, List, ◌∷◌, ◌++◌, is_ok};
 ghost use Rattle.scanner.specs.Classes.{class_of};
 ghost use Rattle.scanner.specs.Rule.{passing};
 ghost use Rattle.scanner.specs.States.{seen, step};
+ghost use Rattle.scanner.specs.declared.scan.State.{State};
 ghost use Rattle.scanner.specs.declared.scan.State.TheVariants.{Nothing};
 
-use crate::classes::{GROUP, LEAD, LOADS, WRITES, class};
+use crate::classes::{ByteClass, class};
+use std::error::Error;
+use std::fmt;
+use std::marker::Model;
 
 // How much of a forbidden sequence the last bytes are.
-#[derive(Clone, Copy)]
+#[derive(Clone, Copy, Debug, PartialEq, Eq)]
 pub enum State {
     // None of it.
     Nothing,
@@ -22,47 +23,63 @@ pub enum State {
     Group,
 }
 
-// A scan under way.
-#[derive(Clone, Copy)]
+// A byte completed a forbidden sequence.
+#[derive(Clone, Copy, Debug, PartialEq, Eq)]
+pub struct Forbidden;
+
+impl fmt::Display for Forbidden {
+    fn fmt<W: fmt::Write>(&self, f: &mut fmt::Formatter<W>) -> fmt::Result {
+        f.write_str(
+            "the code has a sequence of bytes that changes the processor's protection: take it out",
+        )
+    }
+}
+
+impl Error for Forbidden {}
+
+// A scan under way. Contracts see it as its state.
+#[derive(Clone, Copy, Debug)]
 pub struct Scanner {
     state: State,
+}
+
+impl Model for Scanner {
+    ghost Value = { State };
+
+    ghost view = { λ s. s.state };
+
+    ghost inverse = { λ state. record { state = state } };
 }
 
 impl Scanner {
     // A scanner that has seen nothing.
     pub fn new() -> Scanner
-        ensures { result.state ≡ Nothing }
+        ensures { result ≡ Nothing }
     {
         Scanner {
             state: State::Nothing,
         }
     }
 
-    // Takes the next byte. `false`: it completes a forbidden sequence, and the state is as it was.
-    pub fn feed(&mut self, byte: u8) -> bool
-        ensures exact { (result, self.new.state) ≡ step self.old.state (class_of byte) }
-        ensures means { (xs : List ℕ) → passing (seen self.old.state ++ (byte ∷ xs)) ≡ (result && passing (seen self.new.state ++ xs)) }
+    // Takes the next byte. Where it completes a forbidden sequence, the state stays as it was.
+    pub fn feed(&mut self, byte: u8) -> Result<(), Forbidden>
+        ensures exact { (is_ok result, self.new) ≡ step self.old (class_of byte) }
+        ensures means { (xs : List ℕ) → passing (seen self.old ++ (byte ∷ xs)) ≡ (is_ok result && passing (seen self.new ++ xs)) }
     {
-        match (self.state, class(byte)) {
-            (State::Lead, WRITES) | (State::Group, LOADS) => false,
-            (_, LEAD) => {
-                self.state = State::Lead;
-                true
+        self.state = match (self.state, class(byte)) {
+            (State::Lead, ByteClass::Writes) | (State::Group, ByteClass::Loads) => {
+                return Err(Forbidden);
             }
-            (State::Lead, GROUP) => {
-                self.state = State::Group;
-                true
-            }
-            _ => {
-                self.state = State::Nothing;
-                true
-            }
-        }
+            (_, ByteClass::Lead) => State::Lead,
+            (State::Lead, ByteClass::Group) => State::Group,
+            _ => State::Nothing,
+        };
+        Ok(())
     }
 
     // Whether a run may end here: not after 0F, and not after 0F 01.
     pub fn may_end(&self) -> bool
-        ensures { result ≡ passing (seen self.now.state) }
+        ensures { result ≡ passing (seen self.now) }
     {
         match self.state {
             State::Nothing => true,

@@ -1,4 +1,4 @@
-use crate::{passes, passes_words};
+use crate::passes;
 
 #[test]
 fn forbidden_runs_fail(rt: HostRuntime) {
@@ -42,8 +42,8 @@ fn loads_end_where_their_ranges_do(rt: HostRuntime) {
 
 #[test]
 fn sequences_reach_over_words(rt: HostRuntime) {
-    assert!(rt; !passes_words(&[0x0f00_0000_0000_0000, 0x30]));
-    assert!(rt; !passes_words(&[0x010f_0000_0000_0000, 0x98]));
-    assert!(rt; passes_words(&[0x0f00_0000_0000_0000, 0x3000]));
-    assert!(rt; !passes_words(&[0, 0x0f00_0000_0000_0000]));
+    assert!(rt; !passes(&[0x0f00_0000_0000_0000, 0x30]));
+    assert!(rt; !passes(&[0x010f_0000_0000_0000, 0x98]));
+    assert!(rt; passes(&[0x0f00_0000_0000_0000, 0x3000]));
+    assert!(rt; !passes(&[0, 0x0f00_0000_0000_0000]));
 }

@@ -1,0 +1,6 @@
+-- One byte.
+use Rattle.scanner.proofs.Runs.{fed_byte}
+use Rattle.scanner.proofs.code.U8Code.feed_to.Goals as goal
+
+pub returns : goal.returns
+returns c = fed_byte _ _ _ _ c.feed.ensures.exact
