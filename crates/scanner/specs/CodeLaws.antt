@@ -1,5 +1,5 @@
 -- That bytes and words are code. The trait takes these proofs as values, so they stand here and not among the other proofs.
-use Rattle.std.specs.Prelude.{List, ℕ, [], ◌∷◌, refl}
+use Rattle.std.specs.Prelude.{ℕ, [], ◌∷◌, refl}
 use Rattle.memory.specs.ByteOrder.{bytes_of}
 use Rattle.scanner.specs.Codes.{IsCode}
 use Rattle.scanner.specs.Rule.{bytes_of_words}

@@ -1,6 +1,6 @@
 -- The scanner's states: what each stands for, and how bytes change it.
 -- Names: `seen`, `forbids`, `next`, `step`, `Stands`, `feed_all`, `Fed`.
-use Rattle.std.specs.Prelude.{◌≡◌, ℕ, Bool, true, false, cond, ◌&&◌, List, [], ◌∷◌, ◌++◌, Decides, ◌==◌}
+use Rattle.std.specs.Prelude.{◌≡◌, ℕ, Bool, true, false, cond, ◌&&◌, List, [], ◌∷◌, ◌++◌, Decides}
 use Rattle.scanner.specs.Classes.{class_of}
 use Rattle.scanner.specs.declared.classes.ByteClass.{ByteClass}
 use Rattle.scanner.specs.declared.classes.ByteClass.TheVariants as class

@@ -33,7 +33,7 @@ impl Code for u8 {
     ghost laws = { byte_laws };
 
     fn feed_to(self, scanner: &mut Scanner) -> Result<(), Forbidden> {
-        scanner.feed(self)
+        scanner.feed_one(self)
     }
 }
 
@@ -51,6 +51,13 @@ impl Code for u64 {
 }
 
 impl Scanner {
+    // Takes a run of one byte.
+    fn feed_one(&mut self, byte: u8) -> Result<(), Forbidden>
+        ensures { Fed self.old (byte ∷ []) (is_ok result) self.new }
+    {
+        self.feed(byte)
+    }
+
     // Takes a run of code, up to the first byte that completes a forbidden sequence.
     pub fn feed_run<T: Code>(&mut self, run: &[T]) -> Result<(), Forbidden>
         ensures { Fed self.old (T.run run.now) (is_ok result) self.new }
