@@ -1,2 +1,3 @@
 -- Lemmas of this crate.
 mod Bytewise
+pub mod Zeros

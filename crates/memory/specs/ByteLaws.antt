@@ -117,10 +117,12 @@ first items = word_of items 0
 word_there : (list : List ℕ) (i : ℕ) → first (part 8 list i) ≡ word_of list i
 word_there list i = same_word (part 8 list i) list 0 i (λ j low. sym (at_first (part 8 list i) j) ∙ get_or-take 8 (drop (8 * i) list) j 0 low ∙ get_or-drop (8 * i) list j 0)
 
-pub byte_laws : Shows 8 first bytes_of words_of put_word
+pub byte_laws : Shows 8 first bytes_of 0 words_of put_word
+unfolding word_of
 byte_laws = record {
   some = omega arith;
   few = omega arith;
+  zeros = refl;
   whole = length-words_of;
   room = λ list i inside. omega arith;
   made = λ list i inside. word_shown list i 0 inside ∙ sym (word_there list i);

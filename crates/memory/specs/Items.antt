@@ -4,7 +4,7 @@
 --   laid        a list with other items in the place of one word's
 --   Shows       what holds of every kind of item
 --   list_laws   that whatever holds a list of items is a memory
-use Rattle.std.specs.Prelude.{◌≡◌, ℕ, ◌+◌, ◌*◌, ◌^◌, ◌<◌, ◌≤◌, List, ◌++◌, length, take, drop, slice_index, slice_set}
+use Rattle.std.specs.Prelude.{◌≡◌, ℕ, ◌+◌, ◌*◌, ◌^◌, ◌<◌, ◌≤◌, List, ◌++◌, length, take, drop, replicate, slice_index, slice_set}
 use Rattle.std.proofs.Common.{arith}
 use Rattle.memory.specs.Memories.{behind, frames_in, Lawful}
 
@@ -17,11 +17,13 @@ abbrev pub laid : {Item : Type 0} → ℕ → List Item → ℕ → List Item �
 laid n list i items = take (n * i) list ++ (items ++ drop (n * i + n) list)
 
 -- What holds of every kind of item, told by how many make a word (`n`), the word that so many make (`word`), the items of a
--- word (`items`), the words of the whole frames of a list (`words`), and a list with a word put into it (`put`).
-pub record Shows {Item : Type 0} (n : ℕ) (word : List Item → ℕ) (items : ℕ → List Item) (words : List Item → List ℕ) (put : List Item → ℕ → ℕ → List Item) : Type 0 where
+-- word (`items`), the item of which the word 0 is made (`nought`), the words of the whole frames of a list (`words`), and a list with a word put into it (`put`).
+pub record Shows {Item : Type 0} (n : ℕ) (word : List Item → ℕ) (items : ℕ → List Item) (nought : Item) (words : List Item → List ℕ) (put : List Item → ℕ → ℕ → List Item) : Type 0 where
   -- A word is 1 to 8 items.
   pub some : 1 ≤ n
   pub few : n ≤ 8
+  -- The word 0 is made of one item alone.
+  pub zeros : word (replicate n nought) ≡ 0
   -- A list shows the 512 words of each of its frames,
   pub whole : (list : List Item) → length (words list) ≡ 512 * frames_in (512 * n) list
   -- whose items lie in the list,
@@ -37,7 +39,7 @@ pub record Shows {Item : Type 0} (n : ℕ) (word : List Item → ℕ) (items : �
   pub same : (list : List Item) (i w : ℕ) → i < 512 * frames_in (512 * n) list → frames_in (512 * n) (put list i w) ≡ frames_in (512 * n) list
 
 -- Whatever holds a list of items is a memory by the words of that list.
-pub list_laws : {Item Self : Type 0} {n : ℕ} {word : List Item → ℕ} {items : ℕ → List Item} {words : List Item → List ℕ} {put : List Item → ℕ → ℕ → List Item} → Shows n word items words put → (list : Self → List Item) → Lawful (λ m. words (list m)) (λ m. frames_in (512 * n) (list m))
+pub list_laws : {Item Self : Type 0} {n : ℕ} {word : List Item → ℕ} {items : ℕ → List Item} {nought : Item} {words : List Item → List ℕ} {put : List Item → ℕ → ℕ → List Item} → Shows n word items nought words put → (list : Self → List Item) → Lawful (λ m. words (list m)) (λ m. frames_in (512 * n) (list m))
 list_laws shows list = record {
   whole = λ m. shows.whole (list m);
   few = λ m. omega arith;

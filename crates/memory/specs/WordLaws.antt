@@ -1,5 +1,5 @@
 -- That words are items of a memory. The trait takes this proof as a value, so it stands here and not among the other proofs.
-use Rattle.std.specs.Prelude.{◌≡◌, ℕ, suc, ◌+◌, ◌*◌, ◌/◌, min, List, [], ◌∷◌, ◌++◌, take, drop, slice_index, slice_set}
+use Rattle.std.specs.Prelude.{◌≡◌, ℕ, suc, ◌+◌, ◌*◌, ◌/◌, min, List, [], ◌∷◌, ◌++◌, take, drop, slice_index, slice_set, refl}
 use Rattle.std.proofs.Common.{sym, ap, ◌∙◌, arith}
 use lib.Seq.{take-set-lt}
 use Rattle.std.proofs.lemmas.List.{drop-set-lt, get_or-drop, get_or-take, length-set, length-take-le, set_split}
@@ -16,10 +16,11 @@ one list i =
     let here : 1 * i + 0 ≡ i = omega arith in
     get_or-take 1 (drop (1 * i) list) 0 0 (omega arith) ∙ get_or-drop (1 * i) list 0 0 ∙ ap (slice_index list) here
 
-pub word_laws : Shows 1 sole (λ w. w ∷ []) shown slice_set
+pub word_laws : Shows 1 sole (λ w. w ∷ []) 0 shown slice_set
 word_laws = record {
   some = omega arith;
   few = omega arith;
+  zeros = refl;
   whole = λ list. length-take-le (512 * frames_in 512 list) list (omega arith);
   room = λ list i inside. omega arith;
   made = λ list i inside. get_or-take _ list i 0 inside ∙ sym (one list i);

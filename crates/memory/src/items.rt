@@ -15,6 +15,9 @@ pub trait Item<const N: usize>: Copy {
     // The items of a word.
     ghost items_of: { ℕ → List Self };
 
+    // The item of which the word 0 is made.
+    ghost nought: { Self };
+
     // The words of the whole frames of a list.
     ghost words: { List Self → List ℕ };
 
@@ -22,7 +25,7 @@ pub trait Item<const N: usize>: Copy {
     ghost put: { List Self → ℕ → ℕ → List Self };
 
     // What holds of all of these.
-    ghost laws: { Shows N word_in items_of words put };
+    ghost laws: { Shows N word_in items_of nought words put };
 
     // The word that the items make.
     fn word(items: [Self; N]) -> u64
@@ -31,12 +34,18 @@ pub trait Item<const N: usize>: Copy {
     // The items of the word.
     fn items(word: u64) -> [Self; N]
         ensures { result ≡ items_of word };
+
+    // The item that is nought.
+    fn zero() -> Self
+        ensures { result ≡ nought };
 }
 
 impl Item<1> for u64 {
     ghost word_in = { sole };
 
     ghost items_of = { λ w. w ∷ [] };
+
+    ghost nought = { 0 };
 
     ghost words = { shown };
 
@@ -56,12 +65,20 @@ impl Item<1> for u64 {
     {
         [word]
     }
+
+    fn zero() -> u64
+        ensures { result ≡ 0 }
+    {
+        0
+    }
 }
 
 impl Item<8> for u8 {
     ghost word_in = { first };
 
     ghost items_of = { bytes_of };
+
+    ghost nought = { 0 };
 
     ghost words = { words_of };
 
@@ -80,6 +97,12 @@ impl Item<8> for u8 {
         ensures { result ≡ bytes_of word }
     {
         word.to_le_bytes()
+    }
+
+    fn zero() -> u8
+        ensures { result ≡ 0 }
+    {
+        b'\0'
     }
 }
 
