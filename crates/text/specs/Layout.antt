@@ -5,7 +5,7 @@
 --   WordsFound      that each text is laid out so, and that `word_at` finds its words
 use Rattle.std.specs.Prelude.{◌≡◌, ℕ, ◌<◌, true, false, List, [], ◌∷◌, ◌++◌, length, slice_index_or}
 use Rattle.std.specs.List.{AllByRecursion}
-use Rattle.text.specs.Lines.{blank, word_at}
+use Rattle.text.specs.Lines.{blank, word_at, words_of}
 
 -- spaces and tabs alone, or nothing
 abbrev pub Blank : List ℕ → Type 0
@@ -35,5 +35,5 @@ Laid (w ∷ ws) t = (rest : List ℕ) × (Begins w rest t × Laid ws rest)
 
 -- there are such words for every text, and the word at a place is the one of them with that number
 pub record WordsFound : Type 0 where
-  pub laid : (t : List ℕ) → (ws : List (List ℕ)) × Laid ws t
+  pub laid : (t : List ℕ) → Laid (words_of t) t
   pub found : (ws : List (List ℕ)) (t : List ℕ) (n : ℕ) → Laid ws t → word_at t n ≡ slice_index_or ws n []

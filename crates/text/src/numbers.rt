@@ -6,7 +6,6 @@ ghost use Rattle.std.specs.Char.{digit_value};
 ghost use Rattle.text.specs.Numbers.{digit_of, reads_on, number_of, Number, pair_of, pairs_of, bytes_of};
 ghost use Rattle.text.specs.Outcomes.{Gives, wants_memory};
 
-use crate::lines::spells;
 use crate::outcomes::Unread;
 use std::alloc::Global;
 
@@ -113,11 +112,9 @@ pub fn bytes(heap: Global, word: &[u8]) -> Result<Vec<u8>, Unread>
     ensures wants { wants_memory result ≡ true → (0 < length word.now) × (length word.now % 2 ≡ 0) }
     ensures gives { Gives vec_items result (bytes_of word.now) }
 {
-    if spells(word, b"-") {
-        return Ok(Vec::new(heap));
+    match word {
+        b"-" => Ok(Vec::new(heap)),
+        b"" => Err(Unread::Unreadable),
+        digits => pairs(heap, digits),
     }
-    if word.is_empty() {
-        return Err(Unread::Unreadable);
-    }
-    pairs(heap, word)
 }
