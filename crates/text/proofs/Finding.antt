@@ -7,14 +7,19 @@ use Rattle.std.specs.List.{slice_get}
 use Rattle.std.specs.Option.{option_map}
 use Rattle.std.proofs.lemmas.Option.{unwrap_or-slice_get}
 use Rattle.std.proofs.lemmas.List.{take_at, drop_at, drop_all}
-use Rattle.std.proofs.lemmas.Bool.{cases_Bool, true≢false, not_from_true, not_from_false}
+use Rattle.std.proofs.lemmas.List.Folds.{prefix_len-append}
+use Rattle.std.proofs.lemmas.Bool.{cases_Bool, cond-true, eq-eqb, true≢false, not_from_true, not_from_false}
 use Rattle.text.specs.Layout.{Blank, Word, Apart, Begins, Laid}
 use Rattle.text.specs.Lines.{blank, unindented, first_word, after_word, after_words, word_at, lengthened, lettered, words_of}
 
--- a run goes on over a front that belongs to it
-prefix_len_front : (p : ℕ → Bool) (xs ys : List ℕ) → AllByRecursion (λ b. p b ≡ true) xs → prefix_len p (xs ++ ys) ≡ length xs + prefix_len p ys
-prefix_len_front p [] ys all = omega arith
-prefix_len_front p (x ∷ xs) ys all = ap (λ b. cond b (1 + prefix_len p (xs ++ ys)) 0) all.0 ∙ omega (arith, prefix_len_front p xs ys all.1)
+-- all of a text passes
+all_pass : (p : ℕ → Bool) (xs : List ℕ) → AllByRecursion (λ b. p b ≡ true) xs → prefix_len p xs ≡ length xs
+all_pass p [] all = refl
+all_pass p (x ∷ xs) all = ap (λ b. cond b (1 + prefix_len p xs) 0) all.0 ∙ omega (arith, all_pass p xs all.1)
+
+-- a run goes on over a front that passes
+front_passes : (p : ℕ → Bool) (xs ys : List ℕ) → AllByRecursion (λ b. p b ≡ true) xs → prefix_len p (xs ++ ys) ≡ length xs + prefix_len p ys
+front_passes p xs ys all = prefix_len-append p xs ys ∙ cond-true _ _ _ (eq-eqb _ _ (all_pass p xs all))
 
 -- and ends where the next byte does not
 prefix_len_stop : (p : ℕ → Bool) (b : ℕ) (bs : List ℕ) → p b ≡ false → prefix_len p (b ∷ bs) ≡ 0
@@ -35,11 +40,11 @@ letters_of (b ∷ bs) all = (not_from_false (blank b) all.0, letters_of bs all.1
 module _ (w rest t : List ℕ) (b : Begins w rest t) where
   starts : unindented t ≡ w ++ rest
   starts =
-      let n : prefix_len (blank) (b.gap ++ (w ++ rest)) ≡ length b.gap = prefix_len_front (blank) b.gap (w ++ rest) b.blanks ∙ omega (arith, blanks_stop w rest b.letters) in
+      let n : prefix_len (blank) (b.gap ++ (w ++ rest)) ≡ length b.gap = front_passes (blank) b.gap (w ++ rest) b.blanks ∙ omega (arith, blanks_stop w rest b.letters) in
       ap unindented b.whole ∙ drop_at b.gap (w ++ rest) _ (sym n)
 
   ends : prefix_len (λ c. not (blank c)) (w ++ rest) ≡ length w
-  ends = prefix_len_front (λ c. not (blank c)) w rest (letters_of w b.letters.1) ∙ omega (arith, letters_stop rest b.apart)
+  ends = front_passes (λ c. not (blank c)) w rest (letters_of w b.letters.1) ∙ omega (arith, letters_stop rest b.apart)
 
   first_found : first_word t ≡ w
   first_found = ap (λ l. take (prefix_len (λ c. not (blank c)) l) l) starts ∙ take_at w rest _ (sym ends)
@@ -47,15 +52,11 @@ module _ (w rest t : List ℕ) (b : Begins w rest t) where
   rest_found : after_word t ≡ rest
   rest_found = ap (λ l. drop (prefix_len (λ c. not (blank c)) l) l) starts ∙ drop_at w rest _ (sym ends)
 
-blank_length : (t : List ℕ) → Blank t → prefix_len (blank) t ≡ length t
-blank_length [] all = refl
-blank_length (b ∷ bs) all = ap (λ c. cond c (1 + prefix_len (blank) bs) 0) all.0 ∙ omega (arith, blank_length bs all.1)
-
 none_left : (t : List ℕ) → Blank t → unindented t ≡ []
-none_left t all = drop_all _ t (omega (arith, blank_length t all))
+none_left t all = drop_all _ t (omega (arith, all_pass blank t all))
 
 -- the words behind the first are those of what follows it
-behind_first : (n : ℕ) (t : List ℕ) → after_words (suc n) t ≡ after_words n (after_word t)
+pub behind_first : (n : ℕ) (t : List ℕ) → after_words (suc n) t ≡ after_words n (after_word t)
 unfolding after_words
 behind_first zero t = refl
 behind_first (suc n) t = ap after_word (behind_first n t)

@@ -1,6 +1,6 @@
 use Rattle.std.proofs.Common.{rules}
 use Rattle.text.proofs.Reading.{number_means}
-use Rattle.text.proofs.numbers.number.Goals as goal
+use Rattle.text.proofs.numbers.Radix.number.Goals as goal
 
 pub returns : goal.returns
 returns c = search (rules, number_means)
