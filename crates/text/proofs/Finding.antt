@@ -1,5 +1,5 @@
 -- The words that lie in a text are those that are found in it.
-use Rattle.std.proofs.Common.{◌≡◌, ℕ, zero, suc, ◌+◌, ◌<◌, Bool, true, false, cond, not, ◌⊎◌, inl, inr, List, [], ◌∷◌, ◌++◌, length, get_or, take, drop, Some, None, Option, MatchOption, Bor, unwrap_or, sym, refl, ap, ◌∙◌, subst, ⊎_elim, arith}
+use Rattle.std.proofs.Common.{◌≡◌, ℕ, zero, suc, ◌+◌, ◌<◌, Bool, true, false, cond, not, ◌⊎◌, inl, inr, List, [], ◌∷◌, ◌++◌, length, get_or, take, drop, Some, None, Option, MatchOption, Bor, unwrap_or, sym, refl, ap, ◌∙◌, subst, ⊎_elim, add-one, arith}
 use Rattle.std.specs.List.{prefix_len, position_or_len, before_first, AllByRecursion}
 use Rattle.std.specs.Prelude.{⊤}
 use Rattle.std.specs.Iterator.{MakesProgress, item_count}
@@ -56,22 +56,26 @@ none_left : (t : List ℕ) → Blank t → unindented t ≡ []
 none_left t all = drop_all _ t (omega (arith, all_pass blank t all))
 
 -- the words behind the first are those of what follows it
-pub behind_first : (n : ℕ) (t : List ℕ) → after_words (suc n) t ≡ after_words n (after_word t)
+after_words-suc : (n : ℕ) (t : List ℕ) → after_words (suc n) t ≡ after_words n (after_word t)
 unfolding after_words
-behind_first zero t = refl
-behind_first (suc n) t = ap after_word (behind_first n t)
+after_words-suc zero t = refl
+after_words-suc (suc n) t = ap after_word (after_words-suc n t)
 
-at_front : (t : List ℕ) → word_at t zero ≡ first_word t
+-- the first word, and each further one as a word of what follows the first
+pub word_at-zero : (t : List ℕ) → word_at t 0 ≡ first_word t
 unfolding after_words
-at_front t = refl
+word_at-zero t = refl
+
+pub word_at-suc : (t : List ℕ) (n : ℕ) → word_at t (n + 1) ≡ word_at (after_word t) n
+word_at-suc t n = ap (λ k. word_at t k) (add-one n) ∙ ap first_word (after_words-suc n t)
 
 pub find : (ws : List (List ℕ)) (t : List ℕ) (n : ℕ) → Laid ws t → word_at t n ≡ get_or ws n []
-find [] t zero l = at_front t ∙ ap (λ u. take (prefix_len (λ c. not (blank c)) u) u) (none_left t l)
+find [] t zero l = word_at-zero t ∙ ap (λ u. take (prefix_len (λ c. not (blank c)) u) u) (none_left t l)
 find [] t (suc n) l =
     let gone : after_word t ≡ [] = ap (λ u. drop (prefix_len (λ c. not (blank c)) u) u) (none_left t l) in
-    ap first_word (behind_first n t) ∙ find [] (after_word t) n (subst Blank (sym gone) tt)
-find (w ∷ ws) t zero l = at_front t ∙ first_found w l.0 t l.1.0
-find (w ∷ ws) t (suc n) l = ap first_word (behind_first n t ∙ ap (after_words n) (rest_found w l.0 t l.1.0)) ∙ find ws l.0 n l.1.1
+    ap first_word (after_words-suc n t) ∙ find [] (after_word t) n (subst Blank (sym gone) tt)
+find (w ∷ ws) t zero l = word_at-zero t ∙ first_found w l.0 t l.1.0
+find (w ∷ ws) t (suc n) l = ap first_word (after_words-suc n t ∙ ap (after_words n) (rest_found w l.0 t l.1.0)) ∙ find ws l.0 n l.1.1
 
 -- a blank before a text adds no word
 before_blank : (b : ℕ) (t : List ℕ) → blank b ≡ true → (ws : List (List ℕ)) → Laid ws t → Laid ws (b ∷ t)
@@ -93,6 +97,7 @@ before_letter b (c ∷ cs) e ws l =
     no_gap : (gap w : List ℕ) → blank c ≡ false → Blank gap → c ∷ cs ≡ gap ++ w → gap ≡ []
     no_gap [] w other all is = refl
     no_gap (g ∷ gs) w other all is = let same : c ≡ g = cc in absurd (true≢false (sym all.0 ∙ ap blank (sym same) ∙ other))
+
     longer : blank c ≡ false → (vs : List (List ℕ)) → Laid vs (c ∷ cs) → Laid (lengthened b vs) (b ∷ (c ∷ cs))
     longer other [] k = absurd (true≢false (sym k.0 ∙ other))
     longer other (w ∷ vs) k =

@@ -1,5 +1,5 @@
 pub mod Behind
-mod Finding
+pub mod Finding
 mod Pairing
 mod Reading
 mod ReadingBack

@@ -22,4 +22,4 @@ wants_memory (Err Memory) = true
 -- what happened, and what to do
 abbrev pub sentence : Unread → List ℕ
 sentence Unreadable = codes "the line cannot be read: mend it and send it again"
-sentence Memory = codes "no memory for what the line asks: free some and send it again"
+sentence Memory = codes "no memory for the line: free some and send it again"

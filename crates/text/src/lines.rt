@@ -12,7 +12,7 @@ use std::marker::Model;
 fn is_blank(byte: u8) -> bool
     ensures { result ≡ blank byte }
 {
-    byte == b' ' || byte == b'\t'
+    matches!(byte, b' ' | b'\t')
 }
 
 // The line less one byte `end`, where it ends with it.
@@ -62,7 +62,10 @@ fn blanks_at_end(text: &[u8]) -> usize
     ensures value { result ≡ suffix_len blank text.now }
     ensures bound { result ≤ length text.now }
 {
-    text.iter().rev().take_while(|byte| is_blank(**byte)).count()
+    text.iter()
+        .rev()
+        .take_while(|byte| is_blank(**byte))
+        .count()
 }
 
 fn without_indent<'a>(text: &'a [u8]) -> &'a [u8]

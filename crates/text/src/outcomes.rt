@@ -21,7 +21,7 @@ impl fmt::Display for Unread {
     fn fmt<W: fmt::Write>(&self, f: &mut fmt::Formatter<W>) -> fmt::Result {
         match self {
             Unread::Unreadable => write!(f, "the line cannot be read: mend it and send it again"),
-            Unread::Memory => write!(f, "no memory for what the line asks: free some and send it again"),
+            Unread::Memory => write!(f, "no memory for the line: free some and send it again"),
         }
     }
 }

@@ -1,6 +1,6 @@
-use Rattle.std.proofs.Common.{◌≡◌, ◌%◌, length, sym, ap, ◌∙◌, arith, rules}
+use Rattle.std.proofs.Common.{◌≡◌, ◌%◌, length, arith, rules}
 use Rattle.std.proofs.lemmas.Bool.Decides.{nat_tests}
-use Rattle.text.proofs.Pairing.{read_on_pairs, odd_none, all_pairs}
+use Rattle.text.proofs.Pairing.{odd_none, all_pairs}
 use Rattle.text.proofs.numbers.pairs.Goals as goal
 
 pub returns-then-not-is_empty-clause-gives : goal.returns-then-not-is_empty-clause-gives
