@@ -150,8 +150,8 @@ nearer t left None e = record { on = λ _. tt; keeps = tt; rests = λ _. tt }
 nearer t left (Some w) e = record { on = λ _. (tt, tt, omega (arith, ap length e)); keeps = tt; rests = λ _. tt }
 
 -- the word at a place is the one of that number
-pub nth_word : (t : List ℕ) (n : ℕ) (r : Option (Bor (List ℕ))) (other word : Bor (List ℕ)) → option_map (λ w. w.now) r ≡ slice_get (words_of t) n → other.now ≡ [] → word ≡ unwrap_or r other → word.now ≡ word_at t n
-nth_word t n r other word got none is = ap (λ w. w.now) is ∙ seen r ∙ ap (λ o. unwrap_or o other.now) got ∙ ap (unwrap_or (slice_get (words_of t) n)) none ∙ unwrap_or-slice_get (words_of t) n [] ∙ sym (find (words_of t) t n (lay t))
+pub word_found : (t : List ℕ) (n : ℕ) (r : Option (Bor (List ℕ))) (other : Bor (List ℕ)) → option_map (λ w. w.now) r ≡ slice_get (words_of t) n → other.now ≡ [] → (unwrap_or r other).now ≡ word_at t n
+word_found t n r other got none = seen r ∙ ap (λ o. unwrap_or o other.now) got ∙ ap (unwrap_or (slice_get (words_of t) n)) none ∙ unwrap_or-slice_get (words_of t) n [] ∙ sym (find (words_of t) t n (lay t))
   where
     seen : (o : Option (Bor (List ℕ))) → (unwrap_or o other).now ≡ unwrap_or (option_map (λ w. w.now) o) other.now
     seen None = refl

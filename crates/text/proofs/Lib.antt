@@ -1,5 +1,6 @@
 pub mod Behind
 pub mod Finding
+mod Hexadecimals
 mod Pairing
 mod Reading
 mod ReadingBack

@@ -1,5 +1,5 @@
 // A script line and its words. Lines are bytes: a script need not be valid text.
-ghost use Rattle.std.specs.Prelude.{◌≡◌, ◌==◌, ℕ, ◌<◌, ◌≤◌, List, [], length, MatchOption, ⊤};
+ghost use Rattle.std.specs.Prelude.{◌≡◌, slice_get, ◌==◌, ℕ, ◌<◌, ◌≤◌, List, [], length, MatchOption, ⊤};
 ghost use Rattle.std.specs.Iterator.{YieldsFirstBy, item_count, MakesProgress};
 ghost use Rattle.std.specs.List.{prefix_len, position_or_len, suffix_len};
 ghost use Rattle.std.specs.Option.{option_copied};
@@ -102,6 +102,7 @@ impl<'a> Iterator for Words<'a> {
 
     ghost remaining = { item_count words_of };
 
+    #[tactic(auto, using(crate::proofs::Finding::yields, crate::proofs::Finding::nearer))]
     fn next(&mut self) -> Option<&'a [u8]>
         ensures word { option_copied result ≡ next_word self.old }
         ensures cases { MatchOption result (first_word self.old ≡ []) (λ w. (w.now ≡ first_word self.old) × (0 < length w.now)) }
@@ -116,11 +117,18 @@ impl<'a> Iterator for Words<'a> {
     }
 }
 
+fn nth_word<'a>(text: &'a [u8], place: usize) -> Option<&'a [u8]>
+    ensures { option_copied result ≡ slice_get (words_of text.now) place }
+{
+    Words::new(text).nth(place)
+}
+
 // The word at a place of the text, counted from 0; empty where the text has fewer words.
+#[tactic(auto, using(crate::proofs::Finding::word_found))]
 pub fn word<'a>(text: &'a [u8], place: usize) -> &'a [u8]
     ensures { result.now ≡ word_at text.now place }
 {
-    Words::new(text).nth(place).unwrap_or(b"")
+    nth_word(text, place).unwrap_or(b"")
 }
 
 // Whether the word at a place of the text is spelled like a name.

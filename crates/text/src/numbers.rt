@@ -43,6 +43,7 @@ impl Radix {
     }
 
     // The number that the digits write, or nothing where one is no digit or the number is 2^64 or more.
+    #[tactic(auto, using(crate::proofs::Reading::overflows))]
     fn total(self, digits: &[u8]) -> Option<u64>
         ensures { result ≡ reads_on (base self) 0 digits.now }
     {
@@ -54,6 +55,7 @@ impl Radix {
     }
 
     // The number that a word writes: an empty word writes none.
+    #[tactic(auto, using(crate::proofs::Reading::number_means))]
     fn number(self, word: &[u8]) -> Option<u64>
         ensures value { result ≡ number_of (base self) word.now }
         ensures means { SomeIff result (Number (base self) word.now) (digits_value (base self) word.now) }
@@ -91,14 +93,14 @@ fn byte(high: u8, low: u8) -> Option<u8>
 }
 
 // The bytes that digits write, two to a byte.
+#[tactic(auto, using(crate::proofs::Pairing::odd_none, crate::proofs::Pairing::all_pairs))]
 fn pairs(heap: Global, digits: &[u8]) -> Result<Vec<u8>, Unread>
     ensures wants { wants_memory result ≡ true → length digits.now % 2 ≡ 0 }
     ensures gives { Gives vec_items result (pairs_of digits.now) }
 {
-    let (pairs, odd) = digits.as_chunks::<2>();
-    if !odd.is_empty() {
+    let (pairs, []) = digits.as_chunks::<2>() else {
         return Err(Unread::Unreadable);
-    }
+    };
     let mut out = Vec::new(heap);
     for [high, low] in pairs {
         out.push(byte(*high, *low).ok_or(Unread::Unreadable)?)?;

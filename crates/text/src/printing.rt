@@ -31,6 +31,7 @@ pub struct Hexadecimal(pub u64);
 impl fmt::Display for Hexadecimal {
     ghost output = { λ h. Some (hexadecimal h.0) };
 
+    #[tactic(auto, using(crate::proofs::Hexadecimals::written_in_full))]
     fn fmt<W: fmt::Write>(&self, f: &mut fmt::Formatter<W>) -> fmt::Result {
         let number = self.0;
         write!(f, "{number:X}")
@@ -44,6 +45,7 @@ pub struct HexBytes<'a>(pub &'a [u8]);
 impl<'a> fmt::Display for HexBytes<'a> {
     ghost output = { λ b. Some (hex_bytes b.0.now) };
 
+    #[tactic(auto, using(crate::proofs::Hexadecimals::one_more_written))]
     fn fmt<W: fmt::Write>(&self, f: &mut fmt::Formatter<W>) -> fmt::Result {
         if self.0.is_empty() {
             return write!(f, "-");

@@ -1,8 +1,0 @@
-use Rattle.std.proofs.Common.{refl, ap}
-use Rattle.std.proofs.lemmas.Iterator.Consumers.{nth_from_yields_List, YieldsList-from_first}
-use Rattle.text.specs.Lines.{words_of}
-use Rattle.text.proofs.Finding.{nth_word}
-use Rattle.text.proofs.lines.word.Goals as goal
-
-pub returns : goal.returns
-returns c = nth_word _ _ _ _ _ (nth_from_yields_List _ _ _ c.nth.ensures.ran (YieldsList-from_first (λ w. w.now) words_of (words_of c.args.text.now) (ap words_of c.new.ensures))) refl c.unwrap_or.ensures
