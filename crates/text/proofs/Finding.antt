@@ -1,9 +1,8 @@
 -- The words that lie in a text are those that are found in it.
-use Rattle.std.proofs.Common.{◌≡◌, ℕ, zero, suc, ◌+◌, ◌<◌, Bool, true, false, cond, not, ◌⊎◌, inl, inr, List, [], ◌∷◌, ◌++◌, length, get_or, take, drop, Some, None, Option, MatchOption, Bor, unwrap_or, sym, refl, ap, ◌∙◌, subst, ⊎_elim, add-one, arith}
-use Rattle.std.specs.List.{prefix_len, position_or_len, before_first, AllByRecursion}
+use Rattle.std.proofs.Common.{◌≡◌, ℕ, zero, suc, ◌+◌, ◌<◌, Bool, true, false, cond, not, ◌⊎◌, inl, inr, List, [], ◌∷◌, ◌++◌, length, get_or, drop, Some, None, Option, MatchOption, Bor, unwrap_or, sym, refl, ap, ◌∙◌, subst, ⊎_elim, add-one, arith}
 use Rattle.std.specs.Prelude.{⊤}
 use Rattle.std.specs.Iterator.{MakesProgress, item_count}
-use Rattle.std.specs.List.{slice_get}
+use Rattle.std.specs.List.{prefix_len, position_or_len, before_first, slice_get, AllByRecursion}
 use Rattle.std.specs.Option.{option_map}
 use Rattle.std.proofs.lemmas.Option.{unwrap_or-slice_get}
 use Rattle.std.proofs.lemmas.List.{take_at, drop_at, drop_all}
@@ -25,13 +24,13 @@ front_passes p xs ys all = prefix_len-append p xs ys ∙ cond-true _ _ _ (eq-eqb
 prefix_len_stop : (p : ℕ → Bool) (b : ℕ) (bs : List ℕ) → p b ≡ false → prefix_len p (b ∷ bs) ≡ 0
 prefix_len_stop p b bs e = ap (λ c. cond c (1 + prefix_len p bs) 0) e
 
-letters_stop : (rest : List ℕ) → Apart rest → prefix_len (λ c. not (blank c)) rest ≡ 0
+letters_stop : (rest : List ℕ) → Apart rest → position_or_len blank rest ≡ 0
 letters_stop [] a = refl
 letters_stop (b ∷ bs) a = prefix_len_stop (λ c. not (blank c)) b bs (not_from_true (blank b) a)
 
-blanks_stop : (w rest : List ℕ) → Word w → prefix_len (blank) (w ++ rest) ≡ 0
+blanks_stop : (w rest : List ℕ) → Word w → prefix_len blank (w ++ rest) ≡ 0
 blanks_stop [] rest h = absurd (omega (arith, h.0))
-blanks_stop (b ∷ bs) rest h = prefix_len_stop (blank) b (bs ++ rest) h.1.0
+blanks_stop (b ∷ bs) rest h = prefix_len_stop blank b (bs ++ rest) h.1.0
 
 letters_of : (w : List ℕ) → AllByRecursion (λ b. blank b ≡ false) w → AllByRecursion (λ b. not (blank b) ≡ true) w
 letters_of [] all = tt
@@ -40,17 +39,17 @@ letters_of (b ∷ bs) all = (not_from_false (blank b) all.0, letters_of bs all.1
 module _ (w rest t : List ℕ) (b : Begins w rest t) where
   starts : unindented t ≡ w ++ rest
   starts =
-      let n : prefix_len (blank) (b.gap ++ (w ++ rest)) ≡ length b.gap = front_passes (blank) b.gap (w ++ rest) b.blanks ∙ omega (arith, blanks_stop w rest b.letters) in
+      let n : prefix_len blank (b.gap ++ (w ++ rest)) ≡ length b.gap = front_passes blank b.gap (w ++ rest) b.blanks ∙ omega (arith, blanks_stop w rest b.letters) in
       ap unindented b.whole ∙ drop_at b.gap (w ++ rest) _ (sym n)
 
-  ends : prefix_len (λ c. not (blank c)) (w ++ rest) ≡ length w
+  ends : position_or_len blank (w ++ rest) ≡ length w
   ends = front_passes (λ c. not (blank c)) w rest (letters_of w b.letters.1) ∙ omega (arith, letters_stop rest b.apart)
 
   first_found : first_word t ≡ w
-  first_found = ap (λ l. take (prefix_len (λ c. not (blank c)) l) l) starts ∙ take_at w rest _ (sym ends)
+  first_found = ap (before_first blank) starts ∙ take_at w rest _ (sym ends)
 
   rest_found : after_word t ≡ rest
-  rest_found = ap (λ l. drop (prefix_len (λ c. not (blank c)) l) l) starts ∙ drop_at w rest _ (sym ends)
+  rest_found = ap (λ l. drop (position_or_len blank l) l) starts ∙ drop_at w rest _ (sym ends)
 
 none_left : (t : List ℕ) → Blank t → unindented t ≡ []
 none_left t all = drop_all _ t (omega (arith, all_pass blank t all))
@@ -69,10 +68,11 @@ word_at-zero t = refl
 pub word_at-suc : (t : List ℕ) (n : ℕ) → word_at t (n + 1) ≡ word_at (after_word t) n
 word_at-suc t n = ap (λ k. word_at t k) (add-one n) ∙ ap first_word (after_words-suc n t)
 
+-- the words that lie in a text are found at their places
 pub find : (ws : List (List ℕ)) (t : List ℕ) (n : ℕ) → Laid ws t → word_at t n ≡ get_or ws n []
-find [] t zero l = word_at-zero t ∙ ap (λ u. take (prefix_len (λ c. not (blank c)) u) u) (none_left t l)
+find [] t zero l = word_at-zero t ∙ ap (before_first blank) (none_left t l)
 find [] t (suc n) l =
-    let gone : after_word t ≡ [] = ap (λ u. drop (prefix_len (λ c. not (blank c)) u) u) (none_left t l) in
+    let gone : after_word t ≡ [] = ap (λ u. drop (position_or_len blank u) u) (none_left t l) in
     ap first_word (after_words-suc n t) ∙ find [] (after_word t) n (subst Blank (sym gone) tt)
 find (w ∷ ws) t zero l = word_at-zero t ∙ first_found w l.0 t l.1.0
 find (w ∷ ws) t (suc n) l = ap first_word (after_words-suc n t ∙ ap (after_words n) (rest_found w l.0 t l.1.0)) ∙ find ws l.0 n l.1.1
@@ -105,6 +105,7 @@ before_letter b (c ∷ cs) e ws l =
         let none = no_gap begins.gap (w ++ k.0) other begins.blanks begins.whole in
         (k.0, (record { gap = []; blanks = tt; letters = (omega arith, (e, begins.letters.1)); apart = begins.apart; whole = ap (λ u. b ∷ u) (begins.whole ∙ ap (λ g. g ++ (w ++ k.0)) none) }, k.1.1))
 
+-- the words of a text lie in it
 pub lay : (t : List ℕ) → Laid (words_of t) t
 unfolding words_of
 lay [] = tt

@@ -16,10 +16,12 @@ abbrev pub read_on_pairs : List ℕ → List (List ℕ) → Option (List ℕ)
 read_on_pairs bs [] = Some bs
 read_on_pairs bs (p ∷ ps) = option_and_then (λ b. read_on_pairs (bs ++ b ∷ []) ps) (pair_of (get_or p 0 0) (get_or p 1 0))
 
+-- one more byte behind bs goes before the bytes to come
 behind : (bs : List ℕ) (b : ℕ) (o : Option (List ℕ)) → option_map (λ cs. (bs ++ b ∷ []) ++ cs) o ≡ option_map (λ cs. bs ++ cs) (option_map (λ cs. b ∷ cs) o)
 behind bs b None = refl
 behind bs b (Some cs) = ap Some (append_assoc bs (b ∷ []) cs)
 
+-- k pairs of digits, read behind bs
 pairs_read : (bs ds : List ℕ) (k : ℕ) → length ds ≡ k * 2 → read_on_pairs bs (first_chunks 2 k ds) ≡ option_map (λ cs. bs ++ cs) (pairs_of ds)
 pairs_read bs [] zero e = ap Some (sym (append-nil bs))
 pairs_read bs (c ∷ ds) zero e = absurd (omega arith)

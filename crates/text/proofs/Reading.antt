@@ -9,6 +9,7 @@ use Rattle.text.specs.Numbers.{base, digit_of, reads_on, number_of, Number}
 use Rattle.text.specs.declared.numbers.Radix.{Radix}
 use Rattle.text.specs.declared.numbers.Radix.TheVariants.{Decimal, Hexadecimal}
 
+-- nothing comes of going on where each way ends in nothing
 pub and_then_none : {A B : Type 0} (f : A → Option B) (o : Option A) → ((a : A) → f a ≡ None) → option_and_then f o ≡ None
 and_then_none f None none = refl
 and_then_none f (Some a) none = none a
@@ -42,6 +43,7 @@ reads_on_means radix n (c ∷ cs) =
     also A B C v a None h = λ p. h (p.0.1, p.1)
     also A B C v a (Some x) h = (((a, h.0.0), h.0.1), h.1)
 
+-- a word writes a number exactly where it is one
 number_of_means : (radix : ℕ) (w : List ℕ) → SomeIff (number_of radix w) (Number radix w) (digits_value radix w)
 number_of_means radix [] = λ p. omega (arith, p.0.0)
 number_of_means radix (c ∷ cs) =

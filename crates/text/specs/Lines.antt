@@ -2,7 +2,9 @@
 --
 --   line_text       a line without its line end
 --   command_part    what stands before a line's comment
+--   next_word       the first word of a text, where it has one; `after_word` is what follows it
 --   word_at         a word of a text by its place, from 0 on; empty where there are fewer words
+--   words_of        the words of a text in turn
 --   shown_text      a line as it is shown where it cannot be read
 use Rattle.std.specs.Prelude.{ℕ, zero, suc, ◌-◌, Bool, cond, ◌&&◌, ◌||◌, List, [], ◌∷◌, length, take, drop, Some, None, Option, ◌==◌, nat_lt, slice_index}
 use Rattle.std.specs.List.{prefix_len, position_or_len, suffix_len, before_first}
@@ -48,11 +50,12 @@ after_words (suc n) t = after_word (after_words n t)
 abbrev pub word_at : List ℕ → ℕ → List ℕ
 word_at t n = first_word (after_words n t)
 
--- the words of a text whose first byte is a letter, where those behind that byte are these words
+-- these words with a letter before the first of them
 abbrev pub lengthened : ℕ → List (List ℕ) → List (List ℕ)
 lengthened b [] = (b ∷ []) ∷ []
 lengthened b (w ∷ ws) = (b ∷ w) ∷ ws
 
+-- the words of a text that begins with a letter, where what follows the letter has these words
 abbrev pub lettered : ℕ → List ℕ → List (List ℕ) → List (List ℕ)
 lettered b [] ws = (b ∷ []) ∷ ws
 lettered b (c ∷ cs) ws = cond (blank c) ((b ∷ []) ∷ ws) (lengthened b ws)

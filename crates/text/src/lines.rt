@@ -75,7 +75,7 @@ fn without_indent<'a>(text: &'a [u8]) -> &'a [u8]
     rest
 }
 
-// The words of a text, from the front. A clause sees the text that is left.
+// The words of a text in turn. A clause sees the text that is left.
 #[derive(Drop)]
 pub struct Words<'a> {
     left: &'a [u8],
