@@ -1,6 +1,6 @@
 pub mod Behind
-mod Finding
-mod Onward
+pub mod Finding
+mod Hexadecimals
 mod Pairing
 mod Reading
 mod ReadingBack

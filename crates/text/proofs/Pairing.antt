@@ -1,37 +1,43 @@
 -- Hexadecimal digits read two at a time give the bytes that they write.
-use Rattle.std.proofs.Common.{◌≡◌, ℕ, ◌+◌, ◌%◌, ◌<◌, ◌≤◌, List, [], ◌∷◌, ◌++◌, length, get_or, drop, Some, None, Option, sym, refl, ap, ◌∙◌, append_assoc, append-nil, arith}
-use Rattle.std.proofs.lemmas.List.{drop_more, drop_all}
+use Rattle.std.proofs.Common.{◌≡◌, ℕ, zero, suc, ◌*◌, ◌/◌, ◌%◌, List, [], ◌∷◌, ◌++◌, length, get_or, Some, None, Option, sym, refl, ap, ◌∙◌, append_assoc, append-nil, arith}
+use Rattle.std.specs.Option.{option_and_then, option_map}
+use Rattle.std.specs.Simd.{first_chunks}
 use Rattle.text.specs.Numbers.{pair_of, pairs_of}
-use Rattle.text.specs.Outcomes.{then}
-use Rattle.text.proofs.Onward.{then_none}
-
--- bytes that were read, before those still to be read
-abbrev pub onto : List ℕ → Option (List ℕ) → Option (List ℕ)
-onto bs o = then o (λ cs. Some (bs ++ cs))
+use Rattle.text.proofs.Reading.{and_then_none}
 
 -- an odd count of digits writes no bytes
 pub odd_none : (ds : List ℕ) → (length ds % 2 ≡ 0 → ⊥) → pairs_of ds ≡ None
 odd_none [] odd = absurd (odd refl)
 odd_none (c ∷ []) odd = refl
-odd_none (c ∷ d ∷ cs) odd = then_none (pair_of c d) _ (λ b. ap (λ o. then o (λ bs. Some (b ∷ bs))) (odd_none cs (λ e. odd (omega arith))))
+odd_none (c ∷ d ∷ cs) odd = and_then_none _ (pair_of c d) (λ b. ap (option_map (λ bs. b ∷ bs)) (odd_none cs (λ e. odd (omega arith))))
 
-onto_more : (bs : List ℕ) (b : ℕ) (o : Option (List ℕ)) → onto (bs ++ b ∷ []) o ≡ onto bs (then o (λ cs. Some (b ∷ cs)))
-onto_more bs b None = refl
-onto_more bs b (Some cs) = ap Some (append_assoc bs (b ∷ []) cs)
+-- pairs of digits read behind the bytes bs
+abbrev pub read_on_pairs : List ℕ → List (List ℕ) → Option (List ℕ)
+read_on_pairs bs [] = Some bs
+read_on_pairs bs (p ∷ ps) = option_and_then (λ b. read_on_pairs (bs ++ b ∷ []) ps) (pair_of (get_or p 0 0) (get_or p 1 0))
 
--- two digits of the list, which v reads, and what is left behind them
-module _ (ds bs : List ℕ) (n m : ℕ) (within : n + 1 < length ds) (next : m ≡ n + 2) (v : Option ℕ) (is : v ≡ pair_of (get_or ds n 0) (get_or ds (n + 1) 0)) where
-  turn : then v (λ b. then (pairs_of (drop m ds)) (λ cs. Some (b ∷ cs))) ≡ pairs_of (drop n ds)
-  turn =
-      let place : n + 1 + 1 ≡ m = omega arith in
-      ap (λ o. then o (λ b. then (pairs_of (drop m ds)) (λ cs. Some (b ∷ cs)))) is
-      ∙ sym (ap pairs_of (drop_more ds n 0 (omega arith) ∙ ap (λ l. get_or ds n 0 ∷ l) (drop_more ds (n + 1) 0 within ∙ ap (λ k. get_or ds (n + 1) 0 ∷ drop k ds) place)))
+-- one more byte behind bs goes before the bytes to come
+behind : (bs : List ℕ) (b : ℕ) (o : Option (List ℕ)) → option_map (λ cs. (bs ++ b ∷ []) ++ cs) o ≡ option_map (λ cs. bs ++ cs) (option_map (λ cs. b ∷ cs) o)
+behind bs b None = refl
+behind bs b (Some cs) = ap Some (append_assoc bs (b ∷ []) cs)
 
-  pub no_pair : v ≡ None → onto bs (pairs_of (drop n ds)) ≡ None
-  no_pair none = ap (onto bs) (sym turn ∙ ap (λ o. then o (λ b. then (pairs_of (drop m ds)) (λ cs. Some (b ∷ cs)))) none)
+-- k pairs of digits, read behind bs
+pairs_read : (bs ds : List ℕ) (k : ℕ) → length ds ≡ k * 2 → read_on_pairs bs (first_chunks 2 k ds) ≡ option_map (λ cs. bs ++ cs) (pairs_of ds)
+pairs_read bs [] zero e = ap Some (sym (append-nil bs))
+pairs_read bs (c ∷ ds) zero e = absurd (omega arith)
+pairs_read bs [] (suc k) e = absurd (omega arith)
+pairs_read bs (c ∷ []) (suc k) e = absurd (omega arith)
+pairs_read bs (c ∷ d ∷ ds) (suc k) e = each (pair_of c d) (λ b. pairs_read (bs ++ b ∷ []) ds k (omega arith) ∙ behind bs b (pairs_of ds))
+  where
+    each : (o : Option ℕ) → ((b : ℕ) → read_on_pairs (bs ++ b ∷ []) (first_chunks 2 k ds) ≡ option_map (λ cs. bs ++ cs) (option_map (λ cs. b ∷ cs) (pairs_of ds)))
+        → option_and_then (λ b. read_on_pairs (bs ++ b ∷ []) (first_chunks 2 k ds)) o ≡ option_map (λ cs. bs ++ cs) (option_and_then (λ b. option_map (λ cs. b ∷ cs) (pairs_of ds)) o)
+    each None same = refl
+    each (Some b) same = same b
 
-  pub a_pair : (b : ℕ) → v ≡ Some b → onto (bs ++ b ∷ []) (pairs_of (drop m ds)) ≡ onto bs (pairs_of (drop n ds))
-  a_pair b some = onto_more bs b _ ∙ ap (onto bs) (sym (ap (λ o. then o (λ b. then (pairs_of (drop m ds)) (λ cs. Some (b ∷ cs)))) some) ∙ turn)
-
-pub all_read : (ds bs : List ℕ) (n : ℕ) → length ds ≤ n → onto bs (pairs_of (drop n ds)) ≡ Some bs
-all_read ds bs n done = ap (λ l. onto bs (pairs_of l)) (drop_all n ds done) ∙ ap Some (append-nil bs)
+-- two to each byte, all digits are read
+pub all_pairs : (ds : List ℕ) → length ds % 2 ≡ 0 → read_on_pairs [] (first_chunks 2 (length ds / 2) ds) ≡ pairs_of ds
+all_pairs ds even = pairs_read [] ds (length ds / 2) (omega arith) ∙ same (pairs_of ds)
+  where
+    same : (o : Option (List ℕ)) → option_map (λ cs. [] ++ cs) o ≡ o
+    same None = refl
+    same (Some cs) = refl

@@ -1,7 +1,7 @@
 -- Digits that were printed are read as the number, and as the bytes, that they were printed for.
 use Rattle.std.proofs.Common.{◌≡◌, ℕ, ◌+◌, ◌*◌, ◌/◌, ◌%◌, ◌^◌, ◌<◌, eqb, List, [], ◌∷◌, map, length, Some, None, decimal, Option, sym, refl, ap, ◌∙◌, ⊎_elim, arith}
 use Rattle.std.specs.List.{flat_map, AllByRecursion}
-use Rattle.std.specs.Option.{SomeIff}
+use Rattle.std.specs.Option.{SomeIff, option_and_then, option_map}
 use Rattle.std.specs.Str.Parse.{AllDigits, IsNumeral, digits_value}
 use Rattle.std.specs.Char.{digit_value}
 use Rattle.std.specs.Int.Digits.{digits_of, number_from_digits, AllBelowBase}
@@ -11,7 +11,6 @@ use Rattle.std.proofs.lemmas.List.{length-map}
 use Rattle.std.proofs.lemmas.Bool.{cond-true, cond-false, eq-eqb, ne_eqb, lt-ltb, and_from, and_right, cases_eq}
 use Rattle.std.proofs.lemmas.Bool.Decides.{nat_tests}
 use Rattle.text.specs.Numbers.{pair_of, pairs_of, number_of, bytes_of, Number}
-use Rattle.text.specs.Outcomes.{then}
 use Rattle.text.specs.Texts.{hex_digit, hexadecimal, two_digits, hex_bytes}
 use Rattle.text.proofs.Reading.{number_means}
 
@@ -58,7 +57,7 @@ pairs_back (b ∷ bs) all =
     let low = digit_back (b % 16) (omega arith) in
     let whole : digit_value (hex_digit (b / 16)) * 16 + digit_value (hex_digit (b % 16)) ≡ b = omega arith in
     let read : pair_of (hex_digit (b / 16)) (hex_digit (b % 16)) ≡ Some b = cond-true _ _ _ (and_from _ _ (lt-ltb (digit_value (hex_digit (b / 16))) 16 (omega arith)) (lt-ltb (digit_value (hex_digit (b % 16))) 16 (omega arith))) ∙ ap Some whole in
-    ap (λ o. then o (λ c. then (pairs_of (flat_map two_digits bs)) (λ cs. Some (c ∷ cs)))) read ∙ ap (λ o. then o (λ cs. Some (b ∷ cs))) (pairs_back bs all.1)
+    ap (option_and_then (λ c. option_map (λ cs. c ∷ cs) (pairs_of (flat_map two_digits bs)))) read ∙ ap (option_map (λ cs. b ∷ cs)) (pairs_back bs all.1)
 
 pub bytes_back : (bs : List ℕ) → AllByRecursion (λ b. b < 256) bs → bytes_of (hex_bytes bs) ≡ Some bs
 bytes_back [] all = refl

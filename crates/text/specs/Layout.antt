@@ -2,10 +2,10 @@
 --
 --   Blank, Word     a run of blanks; one byte or more, none of them a blank
 --   Laid            that a text is these words in turn, set apart by blanks
---   WordsFound      that each text is laid out so, and that `word_at` finds its words
+--   WordsFound      that each text is laid out so by `words_of`, and that `word_at` finds its words
 use Rattle.std.specs.Prelude.{◌≡◌, ℕ, ◌<◌, true, false, List, [], ◌∷◌, ◌++◌, length, slice_index_or}
 use Rattle.std.specs.List.{AllByRecursion}
-use Rattle.text.specs.Lines.{blank, word_at}
+use Rattle.text.specs.Lines.{blank, word_at, words_of}
 
 -- spaces and tabs alone, or nothing
 abbrev pub Blank : List ℕ → Type 0
@@ -33,7 +33,7 @@ abbrev pub Laid : List (List ℕ) → List ℕ → Type 0
 Laid [] t = Blank t
 Laid (w ∷ ws) t = (rest : List ℕ) × (Begins w rest t × Laid ws rest)
 
--- there are such words for every text, and the word at a place is the one of them with that number
+-- every text has such words, those of `words_of`, and the word at a place is the one of them with that number
 pub record WordsFound : Type 0 where
-  pub laid : (t : List ℕ) → (ws : List (List ℕ)) × Laid ws t
+  pub laid : (t : List ℕ) → Laid (words_of t) t
   pub found : (ws : List (List ℕ)) (t : List ℕ) (n : ℕ) → Laid ws t → word_at t n ≡ slice_index_or ws n []

@@ -6,10 +6,17 @@
 --
 -- `digit_value`, `IsNumeral` and `digits_value` are the library's: a digit in either case, one digit or more, what the digits write.
 use Rattle.std.specs.Prelude.{ℕ, ◌+◌, ◌*◌, ◌^◌, ◌<◌, cond, ◌&&◌, List, [], ◌∷◌, length, Some, None, codes, Option, ◌==◌, nat_lt}
+use Rattle.std.specs.Option.{option_and_then, option_map}
 use Rattle.std.specs.Str.Parse.{IsNumeral, digits_value}
 use Rattle.std.specs.Char.{digit_value}
 use Rattle.std.specs.Str.{bytes_eq}
-use Rattle.text.specs.Outcomes.{then}
+use Rattle.text.specs.declared.numbers.Radix.{Radix}
+use Rattle.text.specs.declared.numbers.Radix.TheVariants.{Decimal, Hexadecimal}
+
+-- how many digits a radix has
+abbrev pub base : Radix → ℕ
+base Decimal = 10
+base Hexadecimal = 16
 
 -- the value of a byte that is a digit of the radix
 abbrev pub digit_of : ℕ → ℕ → Option ℕ
@@ -18,7 +25,7 @@ digit_of radix c = cond (nat_lt (digit_value c) radix) (Some (digit_value c)) No
 -- the number that digits write behind those of n, where it is below 2 ^ 64 and all of them are digits
 abbrev pub reads_on : ℕ → ℕ → List ℕ → Option ℕ
 reads_on radix n [] = cond (nat_lt n (2 ^ 64)) (Some n) None
-reads_on radix n (c ∷ cs) = then (digit_of radix c) (λ d. reads_on radix (n * radix + d) cs)
+reads_on radix n (c ∷ cs) = option_and_then (λ d. reads_on radix (n * radix + d) cs) (digit_of radix c)
 
 -- the number that a word writes; nothing for an empty word, a byte that is no digit, or a number of 2 ^ 64 and more
 abbrev pub number_of : ℕ → List ℕ → Option ℕ
@@ -36,7 +43,7 @@ pair_of c d = cond (nat_lt (digit_value c) 16 && nat_lt (digit_value d) 16) (Som
 abbrev pub pairs_of : List ℕ → Option (List ℕ)
 pairs_of [] = Some []
 pairs_of (c ∷ []) = None
-pairs_of (c ∷ d ∷ cs) = then (pair_of c d) (λ b. then (pairs_of cs) (λ bs. Some (b ∷ bs)))
+pairs_of (c ∷ d ∷ cs) = option_and_then (λ b. option_map (λ bs. b ∷ bs) (pairs_of cs)) (pair_of c d)
 
 -- the bytes that a word writes, the first one first; `-` writes none, and an empty word is no bytes
 abbrev pub bytes_of : List ℕ → Option (List ℕ)

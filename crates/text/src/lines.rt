@@ -1,68 +1,25 @@
 // A script line and its words. Lines are bytes: a script need not be valid text.
-ghost use Rattle.std.specs.Prelude.{◌≡◌, ◌≤◌, length};
-ghost use Rattle.std.specs.List.{prefix_len, suffix_len};
+ghost use Rattle.std.specs.Prelude.{◌≡◌, slice_get, ◌==◌, ℕ, ◌<◌, ◌≤◌, List, [], length, MatchOption, ⊤};
+ghost use Rattle.std.specs.Iterator.{YieldsFirstBy, item_count, MakesProgress};
+ghost use Rattle.std.specs.List.{prefix_len, position_or_len, suffix_len};
+ghost use Rattle.std.specs.Option.{option_copied};
 ghost use Rattle.std.specs.Str.{bytes_eq};
 ghost use Rattle.text.specs.Layout.{WordsFound};
-ghost use Rattle.text.specs.Lines.{blank, belongs, chopped, line_text, command_part, unindented, first_word, after_word, after_words, word_at, trimmed, shown_text};
+ghost use Rattle.text.specs.Lines.{blank, chopped, line_text, command_part, unindented, first_word, after_word, next_word, word_at, words_of, trimmed, shown_text};
 
-// A run of bytes at the front of a text: blanks, the bytes of a word, or all that stands before a comment.
-#[derive(Clone, Copy)]
-enum Run {
-    Blanks,
-    Letters,
-    Code,
-}
+use std::marker::Model;
 
 fn is_blank(byte: u8) -> bool
     ensures { result ≡ blank byte }
 {
-    byte == b' ' || byte == b'\t'
-}
-
-fn goes_on(run: Run, byte: u8) -> bool
-    ensures { result ≡ belongs run byte }
-{
-    match run {
-        Run::Blanks => is_blank(byte),
-        Run::Letters => !is_blank(byte),
-        Run::Code => byte != b'#',
-    }
-}
-
-// How many bytes at the front of the text belong to the run.
-fn run_length(run: Run, text: &[u8]) -> usize
-    ensures value { result ≡ prefix_len (belongs run) text.now }
-    ensures bound { result ≤ length text.now }
-{
-    for (i, byte) in text.iter().enumerate() {
-        if !goes_on(run, *byte) {
-            return i;
-        }
-    }
-    text.len()
-}
-
-// How many blanks end the text.
-fn blanks_at_end(text: &[u8]) -> usize
-    ensures value { result ≡ suffix_len blank text.now }
-    ensures bound { result ≤ length text.now }
-{
-    let mut end = text.len();
-    while end > 0 && is_blank(text[end - 1]) {
-        end -= 1;
-    }
-    text.len() - end
+    matches!(byte, b' ' | b'\t')
 }
 
 // The line less one byte `end`, where it ends with it.
 fn without<'a>(line: &'a [u8], end: u8) -> &'a [u8]
     ensures { result.now ≡ chopped end line.now }
 {
-    let length = line.len();
-    if length > 0 && line[length - 1] == end {
-        return &line[0..length - 1];
-    }
-    line
+    line.strip_suffix(&[end]).unwrap_or(line)
 }
 
 // The line without its line feed, and without a carriage return before that.
@@ -72,49 +29,113 @@ pub fn line_text<'a>(line: &'a [u8]) -> &'a [u8]
     without(without(line, b'\n'), b'\r')
 }
 
+// Where the line's comment begins, or the line ends.
+fn code_length(line: &[u8]) -> usize
+    ensures value { result ≡ position_or_len (λ b. b == 35) line.now }
+    ensures bound { result ≤ length line.now }
+{
+    line.iter().take_while(|byte| **byte != b'#').count()
+}
+
 // What stands before the line's comment.
 pub fn command_part<'a>(line: &'a [u8]) -> &'a [u8]
     ensures { result.now ≡ command_part line.now }
 {
-    &line[0..run_length(Run::Code, line)]
+    &line[..code_length(line)]
+}
+
+fn blanks_at_front(text: &[u8]) -> usize
+    ensures value { result ≡ prefix_len blank text.now }
+    ensures bound { result ≤ length text.now }
+{
+    text.iter().take_while(|byte| is_blank(**byte)).count()
+}
+
+fn letters_at_front(text: &[u8]) -> usize
+    ensures value { result ≡ position_or_len blank text.now }
+    ensures bound { result ≤ length text.now }
+{
+    text.iter().take_while(|byte| !is_blank(**byte)).count()
+}
+
+fn blanks_at_end(text: &[u8]) -> usize
+    ensures value { result ≡ suffix_len blank text.now }
+    ensures bound { result ≤ length text.now }
+{
+    text.iter()
+        .rev()
+        .take_while(|byte| is_blank(**byte))
+        .count()
 }
 
 fn without_indent<'a>(text: &'a [u8]) -> &'a [u8]
     ensures { result.now ≡ unindented text.now }
 {
-    &text[run_length(Run::Blanks, text)..]
-}
-
-fn front_word<'a>(text: &'a [u8]) -> &'a [u8]
-    ensures { result.now ≡ first_word text.now }
-{
-    let rest = without_indent(text);
-    &rest[0..run_length(Run::Letters, rest)]
-}
-
-fn behind_word<'a>(text: &'a [u8]) -> &'a [u8]
-    ensures { result.now ≡ after_word text.now }
-{
-    let rest = without_indent(text);
-    &rest[run_length(Run::Letters, rest)..]
-}
-
-// What follows the first words of the text, as many as `count` says.
-fn behind_words<'a>(text: &'a [u8], count: usize) -> &'a [u8]
-    ensures { result.now ≡ after_words count text.now }
-{
-    let mut rest = text;
-    for _ in 0..count {
-        rest = behind_word(rest);
-    }
+    let (_, rest) = text.split_at(blanks_at_front(text));
     rest
 }
 
+// The words of a text in turn. A clause sees the text that is left.
+#[derive(Drop)]
+pub struct Words<'a> {
+    left: &'a [u8],
+}
+
+impl<'a> Model for Words<'a> {
+    ghost Value = { List ℕ };
+
+    ghost view = { λ w. w.left.now };
+}
+
+impl<'a> Words<'a> {
+    pub fn new(text: &'a [u8]) -> Words<'a>
+        ensures { result ≡ text.now }
+    {
+        Words { left: text }
+    }
+}
+
+impl<'a> Iterator for Words<'a> {
+    type Item = &'a [u8];
+
+    ghost next_gives = { YieldsFirstBy (λ w. w.now) words_of };
+
+    ghost remaining = { item_count words_of };
+
+    #[tactic(auto, using(crate::proofs::Finding::yields, crate::proofs::Finding::nearer))]
+    fn next(&mut self) -> Option<&'a [u8]>
+        ensures word { option_copied result ≡ next_word self.old }
+        ensures cases { MatchOption result (first_word self.old ≡ []) (λ w. (w.now ≡ first_word self.old) × (0 < length w.now)) }
+        ensures left { self.new ≡ after_word self.old }
+        ensures steps { YieldsFirstBy (λ w. w.now) words_of self.old result self.new }
+        ensures goes { MakesProgress (λ _. ⊤) (item_count words_of) self.old result self.new }
+    {
+        let rest = without_indent(self.left);
+        let (word, left) = rest.split_at(letters_at_front(rest));
+        self.left = left;
+        (!word.is_empty()).then_some(word)
+    }
+}
+
+fn nth_word<'a>(text: &'a [u8], place: usize) -> Option<&'a [u8]>
+    ensures { option_copied result ≡ slice_get (words_of text.now) place }
+{
+    Words::new(text).nth(place)
+}
+
 // The word at a place of the text, counted from 0; empty where the text has fewer words.
+#[tactic(auto, using(crate::proofs::Finding::word_found))]
 pub fn word<'a>(text: &'a [u8], place: usize) -> &'a [u8]
     ensures { result.now ≡ word_at text.now place }
 {
-    front_word(behind_words(text, place))
+    nth_word(text, place).unwrap_or(b"")
+}
+
+// Whether the word at a place of the text is spelled like a name.
+pub fn is_word(text: &[u8], place: usize, name: &[u8]) -> bool
+    ensures { result ≡ bytes_eq (word_at text.now place) name.now }
+{
+    word(text, place) == name
 }
 
 // The text without the blanks at its two ends.
@@ -122,7 +143,7 @@ fn trimmed<'a>(text: &'a [u8]) -> &'a [u8]
     ensures { result.now ≡ trimmed text.now }
 {
     let rest = without_indent(text);
-    &rest[0..rest.len() - blanks_at_end(rest)]
+    &rest[..rest.len() - blanks_at_end(rest)]
 }
 
 // The line as it is shown: without its line end, and without the blanks at its two ends.
@@ -130,20 +151,6 @@ pub fn shown_text<'a>(line: &'a [u8]) -> &'a [u8]
     ensures { result.now ≡ shown_text line.now }
 {
     trimmed(line_text(line))
-}
-
-// Whether a word is spelled like a name.
-pub(crate) fn spells(word: &[u8], name: &[u8]) -> bool
-    ensures { result ≡ bytes_eq word.now name.now }
-{
-    word == name
-}
-
-// Whether the word at a place of the text is spelled like a name.
-pub fn is_word(text: &[u8], place: usize, name: &[u8]) -> bool
-    ensures { result ≡ bytes_eq (word_at text.now place) name.now }
-{
-    spells(word(text, place), name)
 }
 
 // Every text is words set apart by blanks, and `word` finds each of them at its place.

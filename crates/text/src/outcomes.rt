@@ -1,8 +1,11 @@
 // Why a line gave no command, or a command no answer.
-ghost use Rattle.std.specs.Prelude.{◌≡◌};
+ghost use Rattle.std.specs.Prelude.{◌≡◌, Some};
+ghost use Rattle.text.specs.Outcomes.{sentence};
 ghost use Rattle.text.specs.declared.outcomes.Unread.TheVariants.{Memory};
 
 use std::alloc::{AllocError, AllocFailed};
+use std::error::Error;
+use std::fmt;
 
 #[derive(Clone, Copy, Debug, PartialEq, Eq)]
 pub enum Unread {
@@ -11,6 +14,19 @@ pub enum Unread {
     // There was no memory for what the line asks; nothing was done.
     Memory,
 }
+
+impl fmt::Display for Unread {
+    ghost output = { λ e. Some (sentence e) };
+
+    fn fmt<W: fmt::Write>(&self, f: &mut fmt::Formatter<W>) -> fmt::Result {
+        match self {
+            Unread::Unreadable => write!(f, "the line cannot be read: mend it and send it again"),
+            Unread::Memory => write!(f, "no memory for the line: free some and send it again"),
+        }
+    }
+}
+
+impl Error for Unread {}
 
 impl From<AllocError> for Unread {
     ghost from_gives = { λ _ r. r ≡ Memory };

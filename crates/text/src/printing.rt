@@ -1,10 +1,10 @@
 // Texts behind what a list of bytes holds.
-ghost use Rattle.std.specs.Prelude.{◌≡◌, ◌+◌, ◌<◌, [], ◌∷◌, length, vec_len, vec_capacity, decimal, OnErr};
-ghost use Rattle.std.specs.List.{flat_map};
+ghost use Rattle.std.specs.Prelude.{◌≡◌, ◌+◌, ◌<◌, Some, length, vec_len, vec_capacity, decimal, IfSome, OnErr};
 ghost use Rattle.text.specs.RoundTrip.{ReadsBack};
-ghost use Rattle.text.specs.Texts.{hex_digit, hexadecimal, two_digits, hex_bytes, Puts};
+ghost use Rattle.text.specs.Texts.{hexadecimal, hex_bytes, Puts};
 
-use std::alloc::{AllocError, Global};
+use std::alloc::AllocError;
+use std::fmt;
 
 // Puts a text behind what the list holds.
 pub fn put(out: &mut Vec<u8>, text: &[u8]) -> Result<(), AllocError>
@@ -15,76 +15,67 @@ pub fn put(out: &mut Vec<u8>, text: &[u8]) -> Result<(), AllocError>
     out.extend_from_slice(text)
 }
 
-// The number in decimal digits, without leading zeros.
-pub fn put_decimal(heap: Global, out: &mut Vec<u8>, number: u64) -> Result<(), AllocError>
-    ensures { Puts result out.old.items (decimal number) out.new.items }
+// Puts what a value shows behind what the list holds.
+pub fn put_shown<T: fmt::Display + Drop>(out: &mut Vec<u8>, value: T) -> Result<(), AllocError>
+    ensures done { IfSome (T.output value) (λ text. Puts result out.old.items text out.new.items) }
+    ensures same { OnErr result (out.new.items ≡ out.old.items) }
 {
-    let text = number.to_string(heap)?;
+    let text = value.to_string(*out.allocator())?;
     out.extend_from_slice(text.as_bytes())
 }
 
-// The character of a hexadecimal digit.
-fn digit(value: u64) -> u8
-    requires { value < 16 }
-    ensures { result ≡ hex_digit value }
-{
-    if value < 10 {
-        b'0' + value as u8
-    } else {
-        b'A' - 10 + value as u8
+// A number that is shown in upper-case hexadecimal digits, without leading zeros.
+#[derive(Clone, Copy, Debug)]
+pub struct Hexadecimal(pub u64);
+
+impl fmt::Display for Hexadecimal {
+    ghost output = { λ h. Some (hexadecimal h.0) };
+
+    #[tactic(auto, using(crate::proofs::Hexadecimals::written_in_full))]
+    fn fmt<W: fmt::Write>(&self, f: &mut fmt::Formatter<W>) -> fmt::Result {
+        let number = self.0;
+        write!(f, "{number:X}")
     }
 }
 
-fn put_digit(out: &mut Vec<u8>, value: u64) -> Result<(), AllocError>
-    requires { value < 16 }
-    ensures { Puts result out.old.items (hex_digit value ∷ []) out.new.items }
-{
-    out.push(digit(value))?;
-    Ok(())
+// Bytes that are shown in two digits each, or as `-` where there are none.
+#[derive(Clone, Copy, Debug)]
+pub struct HexBytes<'a>(pub &'a [u8]);
+
+impl<'a> fmt::Display for HexBytes<'a> {
+    ghost output = { λ b. Some (hex_bytes b.0.now) };
+
+    #[tactic(auto, using(crate::proofs::Hexadecimals::one_more_written))]
+    fn fmt<W: fmt::Write>(&self, f: &mut fmt::Formatter<W>) -> fmt::Result {
+        if self.0.is_empty() {
+            return write!(f, "-");
+        }
+        for &byte in self.0 {
+            write!(f, "{byte:02X}")?;
+        }
+        Ok(())
+    }
 }
 
-// The digits of the number, the last one behind those of a sixteenth of it.
-fn put_digits(out: &mut Vec<u8>, number: u64) -> Result<(), AllocError>
-    ensures { Puts result out.old.items (hexadecimal number) out.new.items }
+// The number in decimal digits, without leading zeros.
+pub fn put_decimal(out: &mut Vec<u8>, number: u64) -> Result<(), AllocError>
+    ensures { Puts result out.old.items (decimal number) out.new.items }
 {
-    if number < 16 {
-        return put_digit(out, number);
-    }
-    put_digits(out, number / 16)?;
-    put_digit(out, number % 16)
+    put_shown(out, number)
 }
 
 // The number in upper-case hexadecimal digits, without leading zeros.
 pub fn put_hexadecimal(out: &mut Vec<u8>, number: u64) -> Result<(), AllocError>
     ensures { Puts result out.old.items (hexadecimal number) out.new.items }
 {
-    put_digits(out, number)
-}
-
-fn put_two_digits(out: &mut Vec<u8>, byte: u8) -> Result<(), AllocError>
-    ensures { Puts result out.old.items (two_digits byte) out.new.items }
-{
-    put_digit(out, u64::from(byte / 16))?;
-    put_digit(out, u64::from(byte % 16))
-}
-
-fn put_pairs(out: &mut Vec<u8>, bytes: &[u8]) -> Result<(), AllocError>
-    ensures { Puts result out.old.items (flat_map two_digits bytes.now) out.new.items }
-{
-    for byte in bytes {
-        put_two_digits(out, *byte)?;
-    }
-    Ok(())
+    put_shown(out, Hexadecimal(number))
 }
 
 // The bytes in two digits each, or `-` where there are none.
 pub fn put_bytes(out: &mut Vec<u8>, bytes: &[u8]) -> Result<(), AllocError>
     ensures { Puts result out.old.items (hex_bytes bytes.now) out.new.items }
 {
-    if bytes.is_empty() {
-        return put(out, b"-");
-    }
-    put_pairs(out, bytes)
+    put_shown(out, HexBytes(bytes))
 }
 
 // Numbers and bytes are read back, by the rules of `numbers`, as what they were when they were printed.

@@ -1,7 +1,8 @@
 // Numbers, bytes and words at their edges.
-use crate::lines::{command_part, is_word, shown_text, word};
+use crate::lines::{Words, command_part, is_word, shown_text, word};
 use crate::numbers::{bytes, decimal, hexadecimal};
 use crate::outcomes::Unread;
+use crate::printing::{HexBytes, Hexadecimal, put_bytes, put_decimal, put_hexadecimal, put_shown};
 use std::test::Fail;
 
 #[test]
@@ -60,4 +61,26 @@ fn words_of_lines(rt: HostRuntime) {
     assert!(rt; shown_text(line) == b"scan  0F# 22".as_slice());
     assert!(rt; shown_text(b"\r\r\n") == b"\r".as_slice());
     assert!(rt; shown_text(b" \t").is_empty());
+}
+
+#[test]
+fn words_in_turn(rt: HostRuntime) {
+    let mut words = Words::new(b" \tscan  0F ");
+    assert!(rt; words.next().unwrap_or(b"") == b"scan".as_slice());
+    assert!(rt; words.next().unwrap_or(b"") == b"0F".as_slice());
+    assert!(rt; words.next().is_none());
+    assert!(rt; words.next().is_none());
+}
+
+#[test]
+fn texts_put_behind(rt: HostRuntime) -> Result<(), Fail> {
+    let mut out = Vec::new(rt.alloc());
+    put_decimal(&mut out, 512)?;
+    put_hexadecimal(&mut out, 0x2a0)?;
+    put_bytes(&mut out, b"\x0f\x01\xd8")?;
+    put_shown(&mut out, HexBytes(b""))?;
+    put_shown(&mut out, Hexadecimal(0))?;
+    put_shown(&mut out, Hexadecimal(u64::MAX))?;
+    assert!(rt; out.as_slice() == b"5122A00F01D8-0FFFFFFFFFFFFFFFF".as_slice());
+    Ok(())
 }

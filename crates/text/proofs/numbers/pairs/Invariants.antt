@@ -1,8 +1,8 @@
-use Rattle.std.proofs.Common.{◌≡◌, ◌*◌, drop, vec_items}
+use Rattle.std.proofs.Common.{◌≡◌, drop, vec_items}
 use Rattle.text.specs.Numbers.{pairs_of}
-use Rattle.text.proofs.Pairing.{onto}
+use Rattle.text.proofs.Pairing.{read_on_pairs}
 use Rattle.text.proofs.numbers.pairs.Given as goal
 
--- the bytes read, before those that the digits left write, are the bytes of all digits
-abbrev pub invariant-loop-i : goal.invariant-loop-i
-invariant-loop-i l = onto (vec_items l.out) (pairs_of (drop (2 * l.i) l.digits)) ≡ pairs_of l.digits
+-- the pairs left, read behind the bytes so far, give the bytes of all digits
+abbrev pub invariant-loop-high : goal.invariant-loop-high
+invariant-loop-high l = read_on_pairs (vec_items l.out) (drop l.high-index l.pairs) ≡ pairs_of l.digits

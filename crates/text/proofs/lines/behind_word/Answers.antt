@@ -1,6 +1,0 @@
-use Rattle.std.proofs.Common.{rules}
-use Rattle.std.proofs.lemmas.List.{take_rest}
-use Rattle.text.proofs.lines.behind_word.Goals as goal
-
-pub returns : goal.returns
-returns c = search (rules, take_rest)

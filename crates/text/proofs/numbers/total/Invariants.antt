@@ -1,7 +1,0 @@
-use Rattle.std.proofs.Common.{◌≡◌, ◌^◌, ◌<◌, drop}
-use Rattle.text.specs.Numbers.{reads_on}
-use Rattle.text.proofs.numbers.total.Given as goal
-
--- what is left of the digits, read behind the total, is the number of them all
-abbrev pub invariant-loop-byte : goal.invariant-loop-byte
-invariant-loop-byte l = (l.total < 2 ^ 64) × (reads_on l.radix l.total (drop l.byte-index l.digits) ≡ reads_on l.radix 0 l.digits)
