@@ -1,5 +1,6 @@
 -- A policy's answer to a span, offset by offset.
-use Rattle.std.proofs.Common.{◌≡◌, ℕ, ◌+◌, ◌-◌, Bool, true, false, Decides, arith}
+use Rattle.std.proofs.Common.{◌≡◌, ℕ, ◌+◌, ◌-◌, Bool, true, false, leb, Decides, arith}
+use Rattle.policy.specs.Kinds.{open_from}
 use Rattle.policy.specs.Laws.{permitted_means}
 use Rattle.policy.specs.Policies.{permitted, Throughout}
 use Rattle.policy.specs.Spans.{is_span}
@@ -23,4 +24,11 @@ pub refuses : (opens : ℕ → Bool) (span : Span) → opens (span.offset + (spa
 refuses opens span shut = answers opens span (
   λ e. absurd (false≢true e),
   λ all. absurd (both_ways (opens (span.offset + (span.length - 1))) shut (all (span.offset + (span.length - 1)) (omega arith) (omega arith))),
+)
+
+-- A span is open from a mark up where its first offset is.
+pub answers_from : (mark : ℕ) (span : Span) → leb mark span.offset ≡ permitted (open_from mark) span.offset span.length
+answers_from mark span = answers (open_from mark) span (
+  λ y o low high. grind (arith, nat_tests),
+  λ all. let first = all span.offset (omega arith) (omega arith) in grind (arith, nat_tests),
 )

@@ -6,7 +6,7 @@ use crate::span::Span;
 use crate::traits::Policy;
 
 // A write as a policy is told of it.
-#[derive(Clone, Copy)]
+#[derive(Clone, Copy, Debug, PartialEq, Eq)]
 pub struct Write {
     pub region: u64,
     pub span: Span,

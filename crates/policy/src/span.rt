@@ -8,7 +8,7 @@ ghost use Rattle.policy.specs.Spans.{span_of};
 pub const OFFSETS: u64 = 65536;
 
 // Some of a region's offsets, one or more, that lie one behind the other.
-#[derive(Clone, Copy)]
+#[derive(Clone, Copy, Debug, PartialEq, Eq)]
 pub struct Span {
     offset: u64,
     length: u64,
