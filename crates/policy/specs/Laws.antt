@@ -31,11 +31,15 @@ permitted_last opens offset (suc n) e =
     (and_parts (is_span offset (suc n)) (all_open opens offset (suc n)) e).1).0
 
 -- Where a test stands before each offset, it stands before the answer.
-pub permitted_where : (test : Bool) (openness : ℕ → Bool) (offset length : ℕ) → permitted (λ o. test && openness o) offset length ≡ (test && permitted openness offset length)
+permitted_where : (test : Bool) (openness : ℕ → Bool) (offset length : ℕ) → permitted (λ o. test && openness o) offset length ≡ (test && permitted openness offset length)
 unfolding permitted
 permitted_where true openness offset length = refl
 permitted_where false openness offset zero = refl
 permitted_where false openness offset (suc n) = and-false (is_span offset (suc n))
+
+-- A policy of one region permits what that region does, under the number 0.
+pub permitted_alone : (openness : ℕ → Bool) (region offset length : ℕ) → permitted (alone openness region) offset length ≡ (region == 0 && permitted openness offset length)
+permitted_alone openness region = permitted_where (region == 0) openness
 
 module _ {Self : Type 0} {openness : Self → ℕ → Bool} {closes : ℕ → ℕ → ℕ → Bool} {closed : Self → ℕ → ℕ → Self} (kind : IsKind openness closes closed) where
   -- Every region but 0 is closed.

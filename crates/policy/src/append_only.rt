@@ -30,7 +30,9 @@ impl Kind for AppendOnly {
 
     ghost closed = { append_only_closed };
 
-    ghost facts = { append_only_facts };
+    ghost ends = { append_only_facts.ends };
+
+    ghost leaves = { append_only_facts.leaves };
 
     fn open(&self, span: Span) -> bool {
         self.mark <= span.offset()

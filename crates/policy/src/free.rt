@@ -27,7 +27,9 @@ impl Kind for Free {
 
     ghost closed = { free_closed };
 
-    ghost facts = { free_facts };
+    ghost ends = { free_facts.ends };
+
+    ghost leaves = { free_facts.leaves };
 
     fn open(&self, _span: Span) -> bool {
         true

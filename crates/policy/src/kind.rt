@@ -1,7 +1,7 @@
 // Kinds: each governs a single region, and is a policy.
 
-ghost use Rattle.std.specs.Prelude.{◌≡◌, ℕ, Bool, true};
-ghost use Rattle.policy.specs.Kinds.{IsKind, kind_after, kind_opens, left_open, one_region};
+ghost use Rattle.std.specs.Prelude.{◌≡◌, ℕ, ◌≤◌, Bool, true, false, if◌then◌else◌};
+ghost use Rattle.policy.specs.Kinds.{kind_after, kind_opens, left_open, one_region};
 ghost use Rattle.policy.specs.Laws.{kind_laws};
 ghost use Rattle.policy.specs.Policies.{permitted};
 
@@ -19,9 +19,6 @@ pub(crate) trait Kind {
     // What a permitted write makes of the kind.
     ghost closed: { Self → ℕ → ℕ → Self };
 
-    // What holds of all of these.
-    ghost facts: { IsKind openness closes closed };
-
     // Whether every offset of the span is open.
     fn open(&self, span: Span) -> bool
         ensures { result ≡ permitted (openness self.now) span.offset span.length };
@@ -30,6 +27,12 @@ pub(crate) trait Kind {
     fn close(&mut self, span: Span)
         requires { permitted (openness self.old) span.offset span.length ≡ true }
         ensures { self.new ≡ closed self.old span.offset span.length };
+
+    // There is nothing past the last offset.
+    ghost ends: { (kind : Self) (o : ℕ) → 65536 ≤ o → openness kind o ≡ false };
+
+    // A permitted write leaves open what was, less what it closes.
+    ghost leaves: { (kind : Self) (offset length o : ℕ) → permitted (openness kind) offset length ≡ true → openness (closed kind offset length) o ≡ (if closes offset length o then false else openness kind o) };
 }
 
 // A kind's region has the number 0; all others are closed.
@@ -40,16 +43,18 @@ impl<K: Kind> Policy for K {
 
     ghost after = { kind_after K.openness K.closed };
 
-    ghost laws = { kind_laws K.facts };
+    ghost laws = { kind_laws (record { ends = K.ends; leaves = K.leaves }) };
 
     fn regions(&self) -> u64 {
         1
     }
 
+    #[tactic(auto, using(crate::specs::Laws::permitted_alone))]
     fn permits(&self, region: u64, span: Span) -> bool {
         region == 0 && self.open(span)
     }
 
+    #[tactic(auto, using(crate::specs::Laws::permitted_alone))]
     fn told(&mut self, region: u64, span: Span)
         ensures after { self.new ≡ kind_after K.openness K.closed self.old region span.offset span.length }
         ensures same { one_region self.new ≡ one_region self.old }

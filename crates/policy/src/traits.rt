@@ -20,9 +20,6 @@ pub trait Policy {
     // What a write to a region makes of the policy, by its offset and its length.
     ghost after: { Self → ℕ → ℕ → ℕ → Self };
 
-    // What holds of all of these.
-    ghost laws: { Lawful opens count after };
-
     // How many regions there are. Those from here up are closed.
     fn regions(&self) -> u64
         ensures is { result ≡ count self.now }
@@ -37,4 +34,7 @@ pub trait Policy {
     fn told(&mut self, region: u64, span: Span)
         ensures after { self.new ≡ after self.old region span.offset span.length }
         ensures same { count self.new ≡ count self.old };
+
+    // What holds of all of these.
+    ghost laws: { Lawful opens count after };
 }

@@ -39,7 +39,9 @@ impl Kind for WriteOnce {
 
     ghost closed = { write_once_closed };
 
-    ghost facts = { write_once_facts };
+    ghost ends = { write_once_facts.ends };
+
+    ghost leaves = { write_once_facts.leaves };
 
     fn open(&self, span: Span) -> bool {
         span.end() <= ONCE

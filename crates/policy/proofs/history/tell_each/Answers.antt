@@ -15,5 +15,5 @@ pub returns : goal.returns
 returns g c = record {
   is = c.loop-write.invariant.0 ∙ ap (after_all g.P.Policy.after c.args.policy.now) (take_all c.loop-write.write-index c.args.writes.now (omega arith));
   same = c.loop-write.invariant.1;
-  closed = closed_for_good g.P.Policy.after g.P.Policy.laws c.args.policy.now;
+  closed = closed_for_good g.P.Policy.after g.met.P.Policy.laws c.args.policy.now;
 }
