@@ -1,5 +1,5 @@
 -- A policy's answer to a span, offset by offset.
-use Rattle.std.proofs.Common.{◌≡◌, ℕ, ◌+◌, ◌-◌, Bool, true, false, leb, Decides, arith}
+use Rattle.std.proofs.Common.{◌≡◌, ℕ, ◌+◌, ◌-◌, ◌≤◌, Bool, true, false, leb, Decides, arith}
 use Rattle.policy.specs.Kinds.{open_from}
 use Rattle.policy.specs.Laws.{permitted_means}
 use Rattle.policy.specs.Policies.{permitted, Throughout}
@@ -27,8 +27,10 @@ refuses opens span shut = answers opens span (
 )
 
 -- A span is open from a mark up where its first offset is.
-pub answers_from : (mark : ℕ) (span : Span) → leb mark span.offset ≡ permitted (open_from mark) span.offset span.length
-answers_from mark span = answers (open_from mark) span (
-  λ y o low high. grind (arith, nat_tests),
-  λ all. let first = all span.offset (omega arith) (omega arith) in grind (arith, nat_tests),
-)
+pub first_open : (mark offset length : ℕ) → 1 ≤ length → offset + length ≤ 65536 → permitted (open_from mark) offset length ≡ leb mark offset
+first_open mark offset length some inside =
+    let valid : is_span offset length ≡ true = grind (arith, nat_tests) in
+    same_from_decides (permitted (open_from mark) offset length) (leb mark offset) (permitted_means (open_from mark) offset length) (
+      λ y. (valid, λ o low high. grind (arith, nat_tests)),
+      λ all. let first = all.1 offset (omega arith) (omega arith) in grind (arith, nat_tests),
+    )

@@ -34,6 +34,7 @@ impl Kind for AppendOnly {
 
     ghost leaves = { append_only_facts.leaves };
 
+    #[tactic(auto, using(crate::proofs::Permitting::first_open))]
     fn open(&self, span: Span) -> bool {
         self.mark <= span.offset()
     }

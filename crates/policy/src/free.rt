@@ -31,6 +31,7 @@ impl Kind for Free {
 
     ghost leaves = { free_facts.leaves };
 
+    #[tactic(auto, using(crate::proofs::Permitting::first_open))]
     fn open(&self, _span: Span) -> bool {
         true
     }

@@ -1,7 +1,7 @@
 // The kind whose every offset is written once.
 
 ghost use Rattle.std.specs.Prelude.{◌≡◌, ℕ};
-ghost use Rattle.policy.specs.Kinds.{alone, below, write_once_closed, write_once_openness, write_once_opens};
+ghost use Rattle.policy.specs.Kinds.{alone, below, flagged, write_once_closed, write_once_openness, write_once_opens};
 ghost use Rattle.policy.specs.Laws.{write_once_facts};
 ghost use Rattle.policy.specs.Spans.{covers};
 
@@ -21,14 +21,19 @@ pub struct WriteOnce {
     fresh: [bool; FLAGS],
 }
 
+// Flags that are all set.
+fn all_set() -> [bool; FLAGS]
+    ensures { (o : ℕ) → flagged result o ≡ below 4096 o }
+{
+    [true; FLAGS]
+}
+
 impl WriteOnce {
     // The offsets below 4,096 are open.
     pub fn new() -> WriteOnce
         ensures starts { (region offset : ℕ) → write_once_opens result region offset ≡ alone (below 4096) region offset }
     {
-        WriteOnce {
-            fresh: [true; FLAGS],
-        }
+        WriteOnce { fresh: all_set() }
     }
 }
 

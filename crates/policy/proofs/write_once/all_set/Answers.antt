@@ -1,6 +1,6 @@
 -- Flags that are all set.
-use Rattle.std.proofs.Common.{◌≡◌, ℕ, true, false, ◌&&◌, eqb, ltb, get_or, replicate, ap, ⊎_elim, arith}
-use Rattle.policy.proofs.write_once.WriteOnce.new.Goals as goal
+use Rattle.std.proofs.Common.{◌≡◌, ℕ, true, false, ◌&&◌, ltb, get_or, replicate, ⊎_elim, arith}
+use Rattle.policy.proofs.write_once.all_set.Goals as goal
 use Rattle.std.proofs.lemmas.List.{get_or-replicate}
 use Rattle.std.proofs.lemmas.Bool.{cases_lt}
 use Rattle.std.proofs.lemmas.Bool.Decides.{nat_tests}
@@ -12,4 +12,4 @@ all n o = ⊎_elim
     (cases_lt o n)
 
 pub returns : goal.returns
-returns c = record { starts = λ region o. ap (λ t. eqb region 0 && t) (all 4096 o) }
+returns c = all 4096
