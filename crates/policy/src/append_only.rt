@@ -30,9 +30,7 @@ impl Kind for AppendOnly {
 
     ghost closed = { append_only_closed };
 
-    ghost ends = { append_only_facts.ends };
-
-    ghost leaves = { append_only_facts.leaves };
+    ghost facts = { append_only_facts };
 
     #[tactic(auto, using(crate::proofs::Permitting::first_open))]
     fn open(&self, span: Span) -> bool {

@@ -27,9 +27,7 @@ impl Kind for Free {
 
     ghost closed = { free_closed };
 
-    ghost ends = { free_facts.ends };
-
-    ghost leaves = { free_facts.leaves };
+    ghost facts = { free_facts };
 
     #[tactic(auto, using(crate::proofs::Permitting::first_open))]
     fn open(&self, _span: Span) -> bool {

@@ -1,7 +1,7 @@
 // Kinds: each governs a single region, and is a policy.
 
-ghost use Rattle.std.specs.Prelude.{◌≡◌, ℕ, ◌≤◌, Bool, true, false, if◌then◌else◌};
-ghost use Rattle.policy.specs.Kinds.{kind_after, kind_opens, left_open, one_region};
+ghost use Rattle.std.specs.Prelude.{◌≡◌, ℕ, Bool, true};
+ghost use Rattle.policy.specs.Kinds.{IsKind, kind_after, kind_opens, left_open, one_region};
 ghost use Rattle.policy.specs.Laws.{kind_laws};
 ghost use Rattle.policy.specs.Policies.{permitted};
 
@@ -28,11 +28,8 @@ pub(crate) trait Kind {
         requires { permitted (openness self.old) span.offset span.length ≡ true }
         ensures { self.new ≡ closed self.old span.offset span.length };
 
-    // There is nothing past the last offset.
-    ghost ends: { (kind : Self) (o : ℕ) → 65536 ≤ o → openness kind o ≡ false };
-
-    // A permitted write leaves open what was, less what it closes.
-    ghost leaves: { (kind : Self) (offset length o : ℕ) → permitted (openness kind) offset length ≡ true → openness (closed kind offset length) o ≡ (if closes offset length o then false else openness kind o) };
+    // What holds of all of these.
+    ghost facts: { IsKind openness closes closed };
 }
 
 // A kind's region has the number 0; all others are closed.
@@ -43,7 +40,7 @@ impl<K: Kind> Policy for K {
 
     ghost after = { kind_after K.openness K.closed };
 
-    ghost laws = { kind_laws (record { ends = K.ends; leaves = K.leaves }) };
+    ghost laws = { kind_laws K.facts };
 
     fn regions(&self) -> u64 {
         1

@@ -44,9 +44,7 @@ impl Kind for WriteOnce {
 
     ghost closed = { write_once_closed };
 
-    ghost ends = { write_once_facts.ends };
-
-    ghost leaves = { write_once_facts.leaves };
+    ghost facts = { write_once_facts };
 
     fn open(&self, span: Span) -> bool {
         span.end() <= ONCE
