@@ -38,6 +38,7 @@ impl<A: Policy, B: Policy> Policy for Pair<A, B> {
         both.min(MOST_REGIONS)
     }
 
+    #[tactic(auto, using(crate::proofs::Permitting::permitted_none))]
     fn permits(&self, region: u64, span: Span) -> bool {
         let firsts = self.first.regions();
         if region < firsts {
