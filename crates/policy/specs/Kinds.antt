@@ -14,7 +14,7 @@
 --   free_closes                       which offsets a write closes there
 --   write_once_opens, append_only_opens, free_opens   what the policy of each has open
 use Rattle.std.specs.Prelude.{◌≡◌, ℕ, zero, suc, ◌+◌, ◌≤◌, Bool, true, false, cond, ◌&&◌, List, ◌==◌, nat_le, nat_lt, slice_index_or, slice_set}
-use Rattle.policy.specs.Policies.{permitted}
+use Rattle.policy.specs.Policies.{Meaning, permitted}
 use Rattle.policy.specs.declared.append_only.AppendOnly.{AppendOnly}
 use Rattle.policy.specs.declared.free.Free.{Free}
 use Rattle.policy.specs.declared.write_once.WriteOnce.{WriteOnce}
@@ -34,6 +34,10 @@ one_region _ = 1
 -- A write that is permitted changes a kind as `closed` says, any other leaves it as it was.
 abbrev pub kind_after : {Self : Type 0} → (Self → ℕ → Bool) → (Self → ℕ → ℕ → Self) → Self → ℕ → ℕ → ℕ → Self
 kind_after openness closed kind region offset length = cond (permitted (kind_opens openness kind region) offset length) (closed kind offset length) kind
+
+-- What a kind means as a policy.
+abbrev pub kind_means : {Self : Type 0} → (Self → ℕ → Bool) → (Self → ℕ → ℕ → Self) → Meaning Self
+kind_means openness closed = record { opens = kind_opens openness; count = one_region; after = kind_after openness closed }
 
 -- What is open after a write: what was, less what a permitted write closes in its region.
 abbrev pub left_open : (ℕ → Bool) → (ℕ → ℕ → Bool) → ℕ → ℕ → ℕ → ℕ → ℕ → Bool

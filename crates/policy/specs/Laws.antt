@@ -1,7 +1,7 @@
 -- That the kinds are policies. The traits take these proofs as values, so they stand here and not among the other proofs.
 use Rattle.std.specs.Prelude.{◌≡◌, ℕ, zero, suc, pred, ◌+◌, ◌-◌, ◌≤◌, Bool, true, false, cond, ◌&&◌, List, [], ◌∷◌, Decides, ◌==◌, nat_le, nat_lt, slice_index_or, slice_set, refl}
 use Rattle.std.proofs.Common.{sym, ap, ◌∙◌, subst, ⊎_elim, arith}
-use Rattle.policy.specs.Kinds.{alone, append_only_closed, append_only_closes, append_only_openness, cleared, flagged, free_closed, free_closes, free_openness, IsKind, kind_after, kind_opens, one_region, open_from, write_once_closed, write_once_openness}
+use Rattle.policy.specs.Kinds.{alone, append_only_closed, append_only_closes, append_only_openness, cleared, flagged, free_closed, free_closes, free_openness, IsKind, kind_means, kind_opens, open_from, write_once_closed, write_once_openness}
 use Rattle.policy.specs.Policies.{all_open, permitted, Lawful, Throughout}
 use Rattle.policy.specs.Spans.{covers, is_span}
 use Rattle.std.proofs.Math.Bool.{and-false}
@@ -58,7 +58,7 @@ module _ {Self : Type 0} {openness : Self → ℕ → Bool} {closes : ℕ → �
       kind.leaves policy offset length o e ∙ cond_both (closes offset length o) false (openness policy o) (λ t. t ≡ false) (λ _. refl) (λ _. shut)
 
   -- A kind is a policy.
-  pub kind_laws : Lawful (kind_opens openness) one_region (kind_after openness closed)
+  pub kind_laws : Lawful (kind_means openness closed)
   kind_laws = record {
     few = λ _. omega arith;
     past = λ policy. past (openness policy);

@@ -1,7 +1,7 @@
 // Kinds: each governs a single region, and is a policy.
 
 ghost use Rattle.std.specs.Prelude.{◌≡◌, ℕ, Bool, true};
-ghost use Rattle.policy.specs.Kinds.{IsKind, kind_after, kind_opens, left_open, one_region};
+ghost use Rattle.policy.specs.Kinds.{IsKind, kind_after, kind_means, kind_opens, left_open, one_region};
 ghost use Rattle.policy.specs.Laws.{kind_laws};
 ghost use Rattle.policy.specs.Policies.{permitted};
 
@@ -34,11 +34,7 @@ pub(crate) trait Kind {
 
 // A kind's region has the number 0; all others are closed.
 impl<K: Kind> Policy for K {
-    ghost opens = { kind_opens K.openness };
-
-    ghost count = { one_region };
-
-    ghost after = { kind_after K.openness K.closed };
+    ghost means = { kind_means K.openness K.closed };
 
     ghost laws = { kind_laws K.facts };
 

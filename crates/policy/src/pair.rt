@@ -2,7 +2,7 @@
 
 ghost use Rattle.std.specs.Prelude.{◌≡◌};
 ghost use Rattle.policy.specs.PairLaws.{pair_laws};
-ghost use Rattle.policy.specs.Pairs.{pair_after, pair_count, pair_opens, SideBySide};
+ghost use Rattle.policy.specs.Pairs.{pair_means, SideBySide};
 
 use crate::span::Span;
 use crate::traits::{MOST_REGIONS, Policy};
@@ -18,18 +18,14 @@ impl<A: Policy, B: Policy> Pair<A, B> {
     // The two side by side.
     pub fn new(first: A, second: B) -> Pair<A, B>
         ensures same { (result.first ≡ first) × (result.second ≡ second) }
-        ensures shows { SideBySide A.Policy.opens A.Policy.count A.Policy.after B.Policy.opens B.Policy.count B.Policy.after result }
+        ensures shows { SideBySide A.Policy.means B.Policy.means result }
     {
         Pair { first, second }
     }
 }
 
 impl<A: Policy, B: Policy> Policy for Pair<A, B> {
-    ghost opens = { pair_opens A.Policy.opens A.Policy.count B.Policy.opens };
-
-    ghost count = { pair_count A.Policy.count B.Policy.count };
-
-    ghost after = { pair_after A.Policy.count A.Policy.after B.Policy.after };
+    ghost means = { pair_means A.Policy.means B.Policy.means };
 
     ghost laws = { pair_laws A.Policy.laws B.Policy.laws };
 

@@ -8,5 +8,5 @@ pub returns : goal.returns
 returns g c = record {
   is = grind (arith, common_steps);
   same = c.loop-write.invariant.1;
-  closed = closed_for_good g.P.Policy.after g.met.P.Policy.laws c.args.policy.now;
+  closed = closed_for_good g.P.Policy.means g.met.P.Policy.laws c.args.policy.now;
 }
