@@ -42,45 +42,17 @@ pub permitted_alone : (openness : ℕ → Bool) (region offset length : ℕ) →
 permitted_alone openness region = permitted_where (region == 0) openness
 
 module _ {Self : Type 0} {openness : Self → ℕ → Bool} {closes : ℕ → ℕ → ℕ → Bool} {closed : Self → ℕ → ℕ → Self} (kind : IsKind openness closes closed) where
-  -- Every region but 0 is closed.
-  past : (openness : ℕ → Bool) (region o : ℕ) → 1 ≤ region → alone openness region o ≡ false
-  past openness region o from = and_left (region == 0) (openness o) (ne_eqb region 0 (λ e. omega arith))
-
-  -- What is permitted lies in region 0, and the kind itself permits it.
-  pub within : (policy : Self) (region offset length : ℕ) → permitted (kind_opens openness policy region) offset length ≡ true → (region ≡ 0) × (permitted (openness policy) offset length ≡ true)
-  within policy region offset length e =
-      let both = and_parts (region == 0) (permitted (openness policy) offset length) (sym (permitted_where (region == 0) (openness policy) offset length) ∙ e) in
-      (eqb-true region 0 both.0, both.1)
-
-  -- Closed stays closed in the kind.
-  keeps : (policy : Self) (offset length o : ℕ) → permitted (openness policy) offset length ≡ true → openness policy o ≡ false → openness (closed policy offset length) o ≡ false
-  keeps policy offset length o e shut =
-      kind.leaves policy offset length o e ∙ cond_both (closes offset length o) false (openness policy o) (λ t. t ≡ false) (λ _. refl) (λ _. shut)
-
   -- A kind is a policy.
   pub kind_laws : Lawful (kind_means openness closed)
   kind_laws = record {
     few = λ _. omega arith;
-    past = λ policy. past (openness policy);
+    past = λ policy region o from. grind (arith, nat_tests);
     yes = λ policy region. permitted_means (kind_opens openness policy region);
-    wide = λ policy region o from. and_right (region == 0) (openness policy o) (kind.ends policy o from);
+    wide = λ policy region o from. let end = kind.ends policy o from in grind (arith, nat_tests);
     same = λ _ _ _ _. refl;
-    refused = λ policy region offset length e. cond-false (permitted (kind_opens openness policy region) offset length) (closed policy offset length) policy e;
-    others = λ policy region offset length other o differs.
-        cond_both (permitted (kind_opens openness policy region) offset length) (closed policy offset length) policy
-        (λ p. alone (openness p) other o ≡ alone (openness policy) other o)
-        (λ e. let zero : region ≡ 0 = (within policy region offset length e).0 in
-        let from : 1 ≤ other = omega arith in
-        past (openness (closed policy offset length)) other o from ∙ sym (past (openness policy) other o from))
-        (λ _. refl);
-    closed = λ policy region offset length r o shut.
-        cond_both (permitted (kind_opens openness policy region) offset length) (closed policy offset length) policy
-        (λ p. alone (openness p) r o ≡ false)
-        (λ e. ⊎_elim
-        (and_left (r == 0) (openness (closed policy offset length) o))
-        (λ f. and_right (r == 0) (openness (closed policy offset length) o) (keeps policy offset length o (within policy region offset length e).1 f))
-        (and_cases (r == 0) (openness policy o) shut))
-        (λ _. shut);
+    refused = λ policy region offset length e. grind (arith, nat_tests);
+    others = λ policy region offset length other o differs. grind (arith, nat_tests, permitted_alone);
+    closed = λ policy region offset length r o shut. grind (arith, nat_tests, permitted_alone, kind.leaves);
   }
 
 -- There is nothing past the last offset.
