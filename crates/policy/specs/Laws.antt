@@ -1,11 +1,11 @@
 -- That the kinds are policies. The traits take these proofs as values, so they stand here and not among the other proofs.
 use Rattle.std.specs.Prelude.{◌≡◌, ℕ, zero, suc, pred, ◌+◌, ◌-◌, ◌≤◌, Bool, true, false, cond, ◌&&◌, List, [], ◌∷◌, Decides, ◌==◌, nat_le, nat_lt, slice_index_or, slice_set, refl}
-use Rattle.std.proofs.Common.{sym, ap, ◌∙◌, subst, ⊎_elim, arith}
+use Rattle.std.proofs.Common.{ap, ◌∙◌, subst, ⊎_elim, arith}
 use Rattle.policy.specs.Kinds.{alone, append_only_closed, append_only_closes, append_only_openness, cleared, flagged, free_closed, free_closes, free_openness, IsKind, kind_means, kind_opens, open_from, write_once_closed, write_once_openness}
 use Rattle.policy.specs.Policies.{all_open, permitted, Lawful, Throughout}
 use Rattle.policy.specs.Spans.{covers, is_span}
 use Rattle.std.proofs.Math.Bool.{and-false}
-use Rattle.std.proofs.lemmas.Bool.{and_cases, and_left, and_right, and_parts, cases_eq, cond_both, cond-false, eqb-true, false≢true, le-ltb, ne_eqb}
+use Rattle.std.proofs.lemmas.Bool.{and_left, and_right, and_parts, cases_eq, false≢true, le-ltb}
 use Rattle.std.proofs.lemmas.Bool.Decides.{Decides-and, Decides-below_and, Decides-like, nat_tests}
 use Rattle.std.proofs.lemmas.List.{get_or-set_other}
 
