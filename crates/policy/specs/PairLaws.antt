@@ -11,19 +11,19 @@ pub pair_laws : {A B : Type 0} {a : Meaning A} {b : Meaning B} → Lawful a → 
 pair_laws {a} {b} first second = record {
   few = λ pair. omega arith;
   past = λ pair region o from.
-      let own = second.past pair.second (region - a.count pair.first) o in
-      grind (arith, nat_tests, first.few pair.first, first.past pair.first region o, own);
+      let own = second.past pair.1 (region - a.count pair.0) o in
+      grind (arith, nat_tests, first.few pair.0, first.past pair.0 region o, own);
   yes = λ pair region. permitted_means (pair_opens a b pair region);
   wide = λ pair region o from.
-      let own = second.wide pair.second (region - a.count pair.first) o from in
-      grind (arith, nat_tests, first.wide pair.first region o from, own);
+      let own = second.wide pair.1 (region - a.count pair.0) o from in
+      grind (arith, nat_tests, first.wide pair.0 region o from, own);
   same = λ pair region offset length. grind (arith, nat_tests, first.same, second.same);
   refused = λ pair region offset length e. grind (arith, nat_tests, first.refused, second.refused);
   others = λ pair region offset length other o differs.
-      let apart : a.count pair.first ≤ other → a.count pair.first ≤ region → other - a.count pair.first ≡ region - a.count pair.first → ⊥ = λ low high e. differs (omega arith) in
-      let own = second.others pair.second (region - a.count pair.first) offset length (other - a.count pair.first) o in
-      grind (arith, nat_tests, first.same pair.first region offset length, first.others pair.first region offset length other o differs, own);
+      let apart : a.count pair.0 ≤ other → a.count pair.0 ≤ region → other - a.count pair.0 ≡ region - a.count pair.0 → ⊥ = λ low high e. differs (omega arith) in
+      let own = second.others pair.1 (region - a.count pair.0) offset length (other - a.count pair.0) o in
+      grind (arith, nat_tests, first.same pair.0 region offset length, first.others pair.0 region offset length other o differs, own);
   closed = λ pair region offset length r o shut.
-      let own = second.closed pair.second (region - a.count pair.first) offset length (r - a.count pair.first) o in
-      grind (arith, nat_tests, first.same pair.first region offset length, first.closed pair.first region offset length r o, own);
+      let own = second.closed pair.1 (region - a.count pair.0) offset length (r - a.count pair.0) o in
+      grind (arith, nat_tests, first.same pair.0 region offset length, first.closed pair.0 region offset length r o, own);
 }

@@ -6,6 +6,7 @@ ghost use Rattle.policy.specs.Pairs.{pair_means, SideBySide};
 
 use crate::span::Span;
 use crate::traits::{MOST_REGIONS, Policy};
+use std::marker::Model;
 
 // Two policies as one: the second's regions follow the first's.
 #[derive(Drop)]
@@ -14,10 +15,16 @@ pub struct Pair<A, B> {
     second: B,
 }
 
+impl<A, B> Model for Pair<A, B> {
+    ghost Value = { A × B };
+
+    ghost view = { λ pair. (pair.first, pair.second) };
+}
+
 impl<A: Policy, B: Policy> Pair<A, B> {
     // The two side by side.
     pub fn new(first: A, second: B) -> Pair<A, B>
-        ensures same { (result.first ≡ first) × (result.second ≡ second) }
+        ensures same { result ≡ (first, second) }
         ensures shows { SideBySide A.Policy.means B.Policy.means result }
     {
         Pair { first, second }
