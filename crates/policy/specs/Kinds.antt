@@ -1,18 +1,20 @@
 -- What a kind is, and the three kinds: what each starts with, and what a write closes.
 --
---   alone                             a kind governs region 0 and no other
---   kind_opens, one_region            what a kind's policy has open, and how many regions
---   kind_after                        what a write makes of a kind
---   left_open                         what a write leaves open
---   IsKind                            what holds of every kind
---   below, open_from                  the offsets below one, and those from one up
---   flagged, cleared                  flags for the offsets, and clearing those of a span
---   write_once_openness, .._closed    write-once: what is open, and what a write makes of it
---   append_only_openness, .._closed   append-only
---   append_only_closes                which offsets a write closes there
---   free_openness, .._closed          free
---   free_closes                       which offsets a write closes there
---   write_once_opens, append_only_opens, free_opens   what the policy of each has open
+--   alone                  a kind governs region 0 and no other
+--   kind_opens             what a kind's policy has open
+--   one_region             how many regions it has
+--   kind_after             what a write makes of it
+--   kind_means             these three together
+--   left_open              what a write leaves open
+--   IsKind                 what holds of every kind
+--   below, open_from       the offsets below one, and those from one up
+--   flagged, cleared       flags for the offsets, and clearing those of a span
+--   write_once_openness, write_once_closed, write_once_opens
+--                          write-once: what is open, what a write makes of it, and what its policy has open
+--   append_only_openness, append_only_closed, append_only_closes, append_only_opens
+--                          append-only, and which offsets a write closes
+--   free_openness, free_closed, free_closes, free_opens
+--                          free
 use Rattle.std.specs.Prelude.{◌≡◌, ℕ, zero, suc, ◌+◌, ◌≤◌, Bool, true, false, cond, ◌&&◌, List, ◌==◌, nat_le, nat_lt, slice_index_or, slice_set}
 use Rattle.policy.specs.Policies.{Meaning, permitted}
 use Rattle.policy.specs.declared.append_only.AppendOnly.{AppendOnly}
@@ -76,6 +78,10 @@ write_once_openness policy = flagged policy.fresh
 abbrev pub write_once_closed : WriteOnce → ℕ → ℕ → WriteOnce
 write_once_closed policy offset length = record { fresh = cleared policy.fresh offset length }
 
+-- Its policy has this open.
+abbrev pub write_once_opens : WriteOnce → ℕ → ℕ → Bool
+write_once_opens = kind_opens write_once_openness
+
 -- Append-only: the offsets from the mark up are open,
 abbrev pub append_only_openness : AppendOnly → ℕ → Bool
 append_only_openness policy = open_from policy.mark
@@ -87,6 +93,10 @@ append_only_closed _ offset length = record { mark = offset + length }
 -- and so closes what lies below that.
 abbrev pub append_only_closes : ℕ → ℕ → ℕ → Bool
 append_only_closes offset length = below (offset + length)
+
+-- Its policy has this open.
+abbrev pub append_only_opens : AppendOnly → ℕ → ℕ → Bool
+append_only_opens = kind_opens append_only_openness
 
 -- Free: all offsets are open,
 abbrev pub free_openness : Free → ℕ → Bool
@@ -100,12 +110,6 @@ free_closed policy _ _ = policy
 abbrev pub free_closes : ℕ → ℕ → ℕ → Bool
 free_closes _ _ _ = false
 
--- What the policy of each kind has open.
-abbrev pub write_once_opens : WriteOnce → ℕ → ℕ → Bool
-write_once_opens = kind_opens write_once_openness
-
-abbrev pub append_only_opens : AppendOnly → ℕ → ℕ → Bool
-append_only_opens = kind_opens append_only_openness
-
+-- Its policy has this open.
 abbrev pub free_opens : Free → ℕ → ℕ → Bool
 free_opens = kind_opens free_openness

@@ -25,9 +25,9 @@ pair_count a b pair = min 16 (a.count pair.0 + b.count pair.1)
 abbrev pub pair_after : {A B : Type 0} → Meaning A → Meaning B → A × B → ℕ → ℕ → ℕ → A × B
 pair_after a b pair region offset length =
     cond (nat_lt region (a.count pair.0))
-    ((a.after pair.0 region offset length, pair.1))
+    (a.after pair.0 region offset length, pair.1)
     (cond (nat_lt region 16)
-    ((pair.0, b.after pair.1 (region - a.count pair.0) offset length))
+    (pair.0, b.after pair.1 (region - a.count pair.0) offset length)
     pair)
 
 -- What a pair means.
