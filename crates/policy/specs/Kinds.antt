@@ -15,7 +15,7 @@
 --                          append-only, and which offsets a write closes
 --   free_openness, free_closed, free_closes, free_opens
 --                          free
-use Rattle.std.specs.Prelude.{◌≡◌, ℕ, zero, suc, ◌+◌, ◌≤◌, Bool, true, false, cond, ◌&&◌, List, ◌==◌, nat_le, nat_lt, slice_index_or, slice_set}
+use Rattle.std.specs.Prelude.{◌≡◌, ℕ, zero, suc, ◌+◌, ◌≤◌, Bool, true, false, if◌then◌else◌, ◌&&◌, List, ◌==◌, nat_le, nat_lt, slice_index_or, slice_set}
 use Rattle.policy.specs.Policies.{Meaning, permitted}
 use Rattle.policy.specs.declared.append_only.AppendOnly.{AppendOnly}
 use Rattle.policy.specs.declared.free.Free.{Free}
@@ -35,7 +35,7 @@ one_region _ = 1
 
 -- A write that is permitted changes a kind as `closed` says, any other leaves it as it was.
 abbrev pub kind_after : {Self : Type 0} → (Self → ℕ → Bool) → (Self → ℕ → ℕ → Self) → Self → ℕ → ℕ → ℕ → Self
-kind_after openness closed kind region offset length = cond (permitted (kind_opens openness kind region) offset length) (closed kind offset length) kind
+kind_after openness closed kind region offset length = if permitted (kind_opens openness kind region) offset length then closed kind offset length else kind
 
 -- What a kind means as a policy.
 abbrev pub kind_means : {Self : Type 0} → (Self → ℕ → Bool) → (Self → ℕ → ℕ → Self) → Meaning Self
@@ -43,7 +43,7 @@ kind_means openness closed = record { opens = kind_opens openness; count = one_r
 
 -- What is open after a write: what was, less what a permitted write closes in its region.
 abbrev pub left_open : (ℕ → Bool) → (ℕ → ℕ → Bool) → ℕ → ℕ → ℕ → ℕ → ℕ → Bool
-left_open closes opens region offset length r o = cond (permitted (opens region) offset length && (r == region && closes o)) false (opens r o)
+left_open closes opens region offset length r o = if permitted (opens region) offset length && (r == region && closes o) then false else opens r o
 
 -- What holds of every kind, told by which offsets are open (`openness`), which of them a permitted write closes, by its
 -- offset and length (`closes`), and what such a write makes of the kind (`closed`).
@@ -51,7 +51,7 @@ pub record IsKind {Self : Type 0} (openness : Self → ℕ → Bool) (closes : �
   -- What lies past the 65,536 offsets is closed.
   pub ends : (kind : Self) (o : ℕ) → 65536 ≤ o → openness kind o ≡ false
   -- A permitted write leaves open what was, less what it closes.
-  pub leaves : (kind : Self) (offset length o : ℕ) → permitted (openness kind) offset length ≡ true → openness (closed kind offset length) o ≡ cond (closes offset length o) false (openness kind o)
+  pub leaves : (kind : Self) (offset length o : ℕ) → permitted (openness kind) offset length ≡ true → openness (closed kind offset length) o ≡ (if closes offset length o then false else openness kind o)
 
 -- The offsets below an end.
 abbrev pub below : ℕ → ℕ → Bool

@@ -1,5 +1,5 @@
 -- That the kinds are policies. The traits take these proofs as values, so they stand here and not among the other proofs.
-use Rattle.std.specs.Prelude.{◌≡◌, ℕ, zero, suc, pred, ◌+◌, ◌-◌, ◌≤◌, Bool, true, false, cond, ◌&&◌, List, [], ◌∷◌, Decides, ◌==◌, nat_le, nat_lt, slice_index_or, slice_set, refl}
+use Rattle.std.specs.Prelude.{◌≡◌, ℕ, zero, suc, pred, ◌+◌, ◌-◌, ◌≤◌, Bool, true, false, if◌then◌else◌, ◌&&◌, List, [], ◌∷◌, ◌==◌, ◌↔◌, IsTrue, nat_le, nat_lt, slice_index_or, slice_set, refl}
 use Rattle.std.proofs.Common.{ap, ◌∙◌, subst, ⊎_elim, arith}
 use Rattle.policy.specs.Kinds.{alone, append_only_closed, append_only_closes, append_only_openness, cleared, flagged, free_closed, free_closes, free_openness, IsKind, kind_means, kind_opens, open_from, write_once_closed, write_once_openness}
 use Rattle.policy.specs.Policies.{all_open, permitted, Lawful, Throughout}
@@ -10,7 +10,7 @@ use Rattle.std.proofs.lemmas.Bool.Decides.{Decides-and, Decides-below_and, Decid
 use Rattle.std.proofs.lemmas.List.{get_or-set_other}
 
 -- The test of a stretch is the test of each of its offsets.
-all_open_means : (opens : ℕ → Bool) (offset length : ℕ) → Decides (all_open opens offset length) (Throughout opens offset length)
+all_open_means : (opens : ℕ → Bool) (offset length : ℕ) → IsTrue (all_open opens offset length) ↔ Throughout opens offset length
 all_open_means opens offset length = Decides-like (all_open opens offset length)
     (λ each o low high. let here : offset + (o - offset) ≡ o = omega arith in subst (λ x. opens x ≡ true) here (each (o - offset) (omega arith)))
     (λ each k below. each (offset + k) (omega arith) (omega arith))
@@ -18,7 +18,7 @@ all_open_means opens offset length = Decides-like (all_open opens offset length)
     (λ _. (λ e. e, λ e. e)) refl (λ _. refl) length)
 
 -- A policy's answer says whether there is a span, and each of its offsets is open.
-pub permitted_means : (opens : ℕ → Bool) (offset length : ℕ) → Decides (permitted opens offset length) ((is_span offset length ≡ true) × Throughout opens offset length)
+pub permitted_means : (opens : ℕ → Bool) (offset length : ℕ) → IsTrue (permitted opens offset length) ↔ (IsTrue (is_span offset length) × Throughout opens offset length)
 unfolding permitted
 permitted_means opens offset length = Decides-and (is_span offset length) (all_open opens offset length) (λ e. e, λ e. e) (all_open_means opens offset length)
 
@@ -60,7 +60,7 @@ mark_ends : (mark o : ℕ) → 65536 ≤ o → open_from mark o ≡ false
 mark_ends mark o from = and_right (nat_le mark o) (nat_lt o 65536) (le-ltb o 65536 from)
 
 -- A mark that moves up to the end of a span closes what lies below that.
-mark_rises : (mark offset length o : ℕ) → open_from mark (offset + pred length) ≡ true → open_from (offset + length) o ≡ cond (append_only_closes offset length o) false (open_from mark o)
+mark_rises : (mark offset length o : ℕ) → open_from mark (offset + pred length) ≡ true → open_from (offset + length) o ≡ (if append_only_closes offset length o then false else open_from mark o)
 mark_rises mark offset length o asked = grind (arith, nat_tests)
 
 -- Append-only is a kind: the mark never falls.
@@ -81,7 +81,7 @@ set_clears (_ ∷ flags) zero = refl
 set_clears (_ ∷ flags) (suc i) = set_clears flags i
 
 -- The flags of a cleared stretch are clear, the others as they were.
-cleared_at : (flags : List Bool) (offset length o : ℕ) → slice_index_or (cleared flags offset length) o false ≡ cond (covers offset length o) false (slice_index_or flags o false)
+cleared_at : (flags : List Bool) (offset length o : ℕ) → slice_index_or (cleared flags offset length) o false ≡ (if covers offset length o then false else slice_index_or flags o false)
 cleared_at flags offset zero o = grind (arith, nat_tests)
 cleared_at flags offset (suc n) o = ⊎_elim
     (λ here. let off : slice_index_or (slice_set (cleared flags offset n) (offset + n) false) o false ≡ false = ap (λ x. slice_index_or (slice_set (cleared flags offset n) (offset + n) false) x false) here ∙ set_clears (cleared flags offset n) (offset + n) in grind (arith, nat_tests))
@@ -90,7 +90,7 @@ cleared_at flags offset (suc n) o = ⊎_elim
     (cases_eq o (offset + n))
 
 -- So it is with the flags below 4,096.
-flagged_falls : (flags : List Bool) (offset length o : ℕ) → flagged (cleared flags offset length) o ≡ cond (covers offset length o) false (flagged flags o)
+flagged_falls : (flags : List Bool) (offset length o : ℕ) → flagged (cleared flags offset length) o ≡ (if covers offset length o then false else flagged flags o)
 flagged_falls flags offset length o = let at = cleared_at flags offset length o in grind (arith, nat_tests)
 
 -- Write-once is a kind: no flag is ever set.

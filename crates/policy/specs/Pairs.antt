@@ -6,12 +6,12 @@
 --   pair_after    what a write makes of it
 --   pair_means    these three together
 --   SideBySide    which regions a pair shows, as what, and where a write goes
-use Rattle.std.specs.Prelude.{◌≡◌, ℕ, ◌+◌, ◌-◌, ◌<◌, ◌≤◌, min, Bool, false, cond, nat_lt}
+use Rattle.std.specs.Prelude.{◌≡◌, ℕ, ◌+◌, ◌-◌, ◌<◌, ◌≤◌, min, Bool, false, if◌then◌else◌, nat_lt}
 use Rattle.policy.specs.Policies.{Meaning}
 
 -- The regions of a first policy, `count` in number, then those of a second, up to region 15; from there up nothing is open.
 abbrev pub shown : ℕ → (ℕ → ℕ → Bool) → (ℕ → ℕ → Bool) → ℕ → ℕ → Bool
-shown count first second region = cond (nat_lt region count) (first region) (cond (nat_lt region 16) (second (region - count)) (λ _. false))
+shown count first second region = if nat_lt region count then first region else (if nat_lt region 16 then second (region - count) else (λ _. false))
 
 -- A pair shows the regions of its two policies so.
 abbrev pub pair_opens : {A B : Type 0} → Meaning A → Meaning B → A × B → ℕ → ℕ → Bool
@@ -24,11 +24,8 @@ pair_count a b pair = min 16 (a.count pair.0 + b.count pair.1)
 -- A write is told to the policy whose region it is.
 abbrev pub pair_after : {A B : Type 0} → Meaning A → Meaning B → A × B → ℕ → ℕ → ℕ → A × B
 pair_after a b pair region offset length =
-    cond (nat_lt region (a.count pair.0))
-    (a.after pair.0 region offset length, pair.1)
-    (cond (nat_lt region 16)
-    (pair.0, b.after pair.1 (region - a.count pair.0) offset length)
-    pair)
+    if nat_lt region (a.count pair.0) then (a.after pair.0 region offset length, pair.1)
+    else (if nat_lt region 16 then (pair.0, b.after pair.1 (region - a.count pair.0) offset length) else pair)
 
 -- What a pair means.
 abbrev pub pair_means : {A B : Type 0} → Meaning A → Meaning B → Meaning (A × B)

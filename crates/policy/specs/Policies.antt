@@ -5,7 +5,7 @@
 --   Throughout   that each offset of a stretch is open
 --   Meaning      what is open in a policy, how many regions it has, and what a write makes of it
 --   Lawful       what holds of every policy
-use Rattle.std.specs.Prelude.{◌≡◌, ℕ, zero, suc, ◌+◌, ◌<◌, ◌≤◌, Bool, true, false, ◌&&◌, ◌≢◌, Decides}
+use Rattle.std.specs.Prelude.{◌≡◌, ℕ, zero, suc, ◌+◌, ◌<◌, ◌≤◌, Bool, true, false, ◌&&◌, ◌≢◌, ◌↔◌, IsTrue}
 use Rattle.policy.specs.Spans.{is_span}
 
 -- Whether the offsets from `offset` on, `length` of them, are all open.
@@ -39,7 +39,7 @@ pub record Lawful {Self : Type 0} (m : Meaning Self) : Type 0 where
   -- and so is whatever lies past a region's 65,536 offsets.
   pub wide : (policy : Self) (region offset : ℕ) → 65536 ≤ offset → m.opens policy region offset ≡ false
   -- It says yes exactly to a span each of whose offsets is open.
-  pub yes : (policy : Self) (region offset length : ℕ) → Decides (permitted (m.opens policy region) offset length) ((is_span offset length ≡ true) × Throughout (m.opens policy region) offset length)
+  pub yes : (policy : Self) (region offset length : ℕ) → IsTrue (permitted (m.opens policy region) offset length) ↔ (IsTrue (is_span offset length) × Throughout (m.opens policy region) offset length)
   -- A write leaves the count as it was.
   pub same : (policy : Self) (region offset length : ℕ) → m.count (m.after policy region offset length) ≡ m.count policy
   -- A write to which it would have said no alters nothing.
