@@ -9,11 +9,11 @@
 --   IsKind                 what holds of every kind
 --   below, open_from       the offsets below one, and those from one up
 --   flagged, cleared       flags for the offsets, and clearing those of a span
---   write_once_openness, write_once_closed, write_once_opens
+--   write_once_openness, write_once_close, write_once_opens
 --                          write-once: what is open, what a write makes of it, and what its policy has open
---   append_only_openness, append_only_closed, append_only_closes, append_only_opens
+--   append_only_openness, append_only_close, append_only_closes, append_only_opens
 --                          append-only, and which offsets a write closes
---   free_openness, free_closed, free_closes, free_opens
+--   free_openness, free_close, free_closes, free_opens
 --                          free
 use Rattle.std.specs.Prelude.{◌≡◌, ℕ, zero, suc, ◌+◌, ◌≤◌, Bool, true, false, if◌then◌else◌, ◌&&◌, List, ◌==◌, nat_le, nat_lt, slice_index_or, slice_set}
 use Rattle.policy.specs.Policies.{Meaning, permitted}
@@ -33,25 +33,25 @@ kind_opens openness kind = alone (openness kind)
 abbrev pub one_region : {Self : Type 0} → Self → ℕ
 one_region _ = 1
 
--- A write that is permitted changes a kind as `closed` says, any other leaves it as it was.
+-- A write that is permitted changes a kind as `close` says, any other leaves it as it was.
 abbrev pub kind_after : {Self : Type 0} → (Self → ℕ → Bool) → (Self → ℕ → ℕ → Self) → Self → ℕ → ℕ → ℕ → Self
-kind_after openness closed kind region offset length = if permitted (kind_opens openness kind region) offset length then closed kind offset length else kind
+kind_after openness close kind region offset length = if permitted (kind_opens openness kind region) offset length then close kind offset length else kind
 
 -- What a kind means as a policy.
 abbrev pub kind_means : {Self : Type 0} → (Self → ℕ → Bool) → (Self → ℕ → ℕ → Self) → Meaning Self
-kind_means openness closed = record { opens = kind_opens openness; count = one_region; after = kind_after openness closed }
+kind_means openness close = record { opens = kind_opens openness; count = one_region; after = kind_after openness close }
 
 -- What is open after a write: what was, less what a permitted write closes in its region.
 abbrev pub left_open : (ℕ → Bool) → (ℕ → ℕ → Bool) → ℕ → ℕ → ℕ → ℕ → ℕ → Bool
 left_open closes opens region offset length r o = if permitted (opens region) offset length && (r == region && closes o) then false else opens r o
 
 -- What holds of every kind, told by which offsets are open (`openness`), which of them a permitted write closes, by its
--- offset and length (`closes`), and what such a write makes of the kind (`closed`).
-pub record IsKind {Self : Type 0} (openness : Self → ℕ → Bool) (closes : ℕ → ℕ → ℕ → Bool) (closed : Self → ℕ → ℕ → Self) : Type 0 where
+-- offset and length (`closes`), and what such a write makes of the kind (`close`).
+pub record IsKind {Self : Type 0} (openness : Self → ℕ → Bool) (closes : ℕ → ℕ → ℕ → Bool) (close : Self → ℕ → ℕ → Self) : Type 0 where
   -- What lies past the 65,536 offsets is closed.
   pub ends : (kind : Self) (o : ℕ) → 65536 ≤ o → openness kind o ≡ false
   -- A permitted write leaves open what was, less what it closes.
-  pub leaves : (kind : Self) (offset length o : ℕ) → permitted (openness kind) offset length ≡ true → openness (closed kind offset length) o ≡ (if closes offset length o then false else openness kind o)
+  pub leaves : (kind : Self) (offset length o : ℕ) → permitted (openness kind) offset length ≡ true → openness (close kind offset length) o ≡ (if closes offset length o then false else openness kind o)
 
 -- The offsets below an end.
 abbrev pub below : ℕ → ℕ → Bool
@@ -75,8 +75,8 @@ abbrev pub write_once_openness : WriteOnce → ℕ → Bool
 write_once_openness policy = flagged policy.fresh
 
 -- and a write clears the flags of its span.
-abbrev pub write_once_closed : WriteOnce → ℕ → ℕ → WriteOnce
-write_once_closed policy offset length = record { fresh = cleared policy.fresh offset length }
+abbrev pub write_once_close : WriteOnce → ℕ → ℕ → WriteOnce
+write_once_close policy offset length = record { fresh = cleared policy.fresh offset length }
 
 -- Its policy has this open.
 abbrev pub write_once_opens : WriteOnce → ℕ → ℕ → Bool
@@ -87,8 +87,8 @@ abbrev pub append_only_openness : AppendOnly → ℕ → Bool
 append_only_openness policy = open_from policy.mark
 
 -- a write moves the mark to its end,
-abbrev pub append_only_closed : AppendOnly → ℕ → ℕ → AppendOnly
-append_only_closed _ offset length = record { mark = offset + length }
+abbrev pub append_only_close : AppendOnly → ℕ → ℕ → AppendOnly
+append_only_close _ offset length = record { mark = offset + length }
 
 -- and so closes what lies below that.
 abbrev pub append_only_closes : ℕ → ℕ → ℕ → Bool
@@ -103,8 +103,8 @@ abbrev pub free_openness : Free → ℕ → Bool
 free_openness _ = open_from 0
 
 -- a write changes nothing,
-abbrev pub free_closed : Free → ℕ → ℕ → Free
-free_closed policy _ _ = policy
+abbrev pub free_close : Free → ℕ → ℕ → Free
+free_close policy _ _ = policy
 
 -- and closes nothing.
 abbrev pub free_closes : ℕ → ℕ → ℕ → Bool

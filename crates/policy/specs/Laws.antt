@@ -1,7 +1,7 @@
 -- That the kinds are policies. The traits take these proofs as values, so they stand here and not among the other proofs.
 use Rattle.std.specs.Prelude.{◌≡◌, ℕ, zero, suc, pred, ◌+◌, ◌-◌, ◌≤◌, Bool, true, false, if◌then◌else◌, ◌&&◌, List, [], ◌∷◌, ◌==◌, ◌↔◌, IsTrue, nat_le, nat_lt, slice_index_or, slice_set, refl}
 use Rattle.std.proofs.Common.{ap, ◌∙◌, subst, ⊎_elim, arith}
-use Rattle.policy.specs.Kinds.{alone, append_only_closed, append_only_closes, append_only_openness, cleared, flagged, free_closed, free_closes, free_openness, IsKind, kind_means, kind_opens, open_from, write_once_closed, write_once_openness}
+use Rattle.policy.specs.Kinds.{alone, append_only_close, append_only_closes, append_only_openness, cleared, flagged, free_close, free_closes, free_openness, IsKind, kind_means, kind_opens, open_from, write_once_close, write_once_openness}
 use Rattle.policy.specs.Policies.{all_open, permitted, Lawful, Throughout}
 use Rattle.policy.specs.Spans.{covers, is_span}
 use Rattle.std.proofs.Math.Bool.{and-false}
@@ -41,19 +41,18 @@ permitted_where false openness offset (suc n) = and-false (is_span offset (suc n
 pub permitted_alone : (openness : ℕ → Bool) (region offset length : ℕ) → permitted (alone openness region) offset length ≡ (region == 0 && permitted openness offset length)
 permitted_alone openness region = permitted_where (region == 0) openness
 
-module _ {Self : Type 0} {openness : Self → ℕ → Bool} {closes : ℕ → ℕ → ℕ → Bool} {closed : Self → ℕ → ℕ → Self} (kind : IsKind openness closes closed) where
-  -- A kind is a policy.
-  pub kind_laws : Lawful (kind_means openness closed)
-  kind_laws = record {
-    few = λ _. omega arith;
-    past = λ policy region o from. grind (arith, nat_tests);
-    yes = λ policy region. permitted_means (kind_opens openness policy region);
-    wide = λ policy region o from. let end = kind.ends policy o from in grind (arith, nat_tests);
-    same = λ _ _ _ _. refl;
-    refused = λ policy region offset length e. grind (arith, nat_tests);
-    others = λ policy region offset length other o differs. grind (arith, nat_tests, permitted_alone);
-    closed = λ policy region offset length r o shut. grind (arith, nat_tests, permitted_alone, kind.leaves);
-  }
+-- A kind is a policy.
+pub kind_laws : {Self : Type 0} {openness : Self → ℕ → Bool} {closes : ℕ → ℕ → ℕ → Bool} {close : Self → ℕ → ℕ → Self} → IsKind openness closes close → Lawful (kind_means openness close)
+kind_laws {openness} kind = record {
+  few = λ _. omega arith;
+  past = λ policy region o from. grind (arith, nat_tests);
+  yes = λ policy region. permitted_means (kind_opens openness policy region);
+  wide = λ policy region o from. let end = kind.ends policy o from in grind (arith, nat_tests);
+  same = λ _ _ _ _. refl;
+  refused = λ policy region offset length e. grind (arith, nat_tests);
+  others = λ policy region offset length other o differs. grind (arith, nat_tests, permitted_alone);
+  closed = λ policy region offset length r o shut. grind (arith, nat_tests, permitted_alone, kind.leaves);
+}
 
 -- There is nothing past the last offset.
 mark_ends : (mark o : ℕ) → 65536 ≤ o → open_from mark o ≡ false
@@ -64,14 +63,14 @@ mark_rises : (mark offset length o : ℕ) → open_from mark (offset + pred leng
 mark_rises mark offset length o asked = grind (arith, nat_tests)
 
 -- Append-only is a kind: the mark never falls.
-pub append_only_facts : IsKind append_only_openness append_only_closes append_only_closed
+pub append_only_facts : IsKind append_only_openness append_only_closes append_only_close
 append_only_facts = record {
   ends = λ policy. mark_ends policy.mark;
   leaves = λ policy offset length o e. mark_rises policy.mark offset length o (permitted_last (open_from policy.mark) offset length e);
 }
 
 -- Free is a kind: nothing changes.
-pub free_facts : IsKind free_openness free_closes free_closed
+pub free_facts : IsKind free_openness free_closes free_close
 free_facts = record { ends = λ _. mark_ends 0; leaves = λ _ _ _ _ _. refl }
 
 -- A flag that is cleared is clear, whether there is one or not.
@@ -94,7 +93,7 @@ flagged_falls : (flags : List Bool) (offset length o : ℕ) → flagged (cleared
 flagged_falls flags offset length o = let at = cleared_at flags offset length o in grind (arith, nat_tests)
 
 -- Write-once is a kind: no flag is ever set.
-pub write_once_facts : IsKind write_once_openness covers write_once_closed
+pub write_once_facts : IsKind write_once_openness covers write_once_close
 write_once_facts = record {
   ends = λ policy o from. and_left (nat_lt o 4096) (slice_index_or policy.fresh o false) (le-ltb o 4096 (omega arith));
   leaves = λ policy offset length o _. flagged_falls policy.fresh offset length o;

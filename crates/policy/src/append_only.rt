@@ -1,7 +1,7 @@
 // The kind that is written from front to back.
 
 ghost use Rattle.std.specs.Prelude.{◌≡◌, ℕ, ◌+◌};
-ghost use Rattle.policy.specs.Kinds.{alone, append_only_closed, append_only_closes, append_only_openness, append_only_opens, below};
+ghost use Rattle.policy.specs.Kinds.{alone, append_only_close, append_only_closes, append_only_openness, append_only_opens, below};
 ghost use Rattle.policy.specs.Laws.{append_only_facts};
 
 use crate::kind::Kind;
@@ -28,7 +28,7 @@ impl Kind for AppendOnly {
 
     ghost closes = { append_only_closes };
 
-    ghost closed = { append_only_closed };
+    ghost close = { append_only_close };
 
     ghost facts = { append_only_facts };
 

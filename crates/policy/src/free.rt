@@ -1,7 +1,7 @@
 // The kind that stays open.
 
 ghost use Rattle.std.specs.Prelude.{◌≡◌, ℕ};
-ghost use Rattle.policy.specs.Kinds.{alone, below, free_closed, free_closes, free_openness, free_opens};
+ghost use Rattle.policy.specs.Kinds.{alone, below, free_close, free_closes, free_openness, free_opens};
 ghost use Rattle.policy.specs.Laws.{free_facts};
 
 use crate::kind::Kind;
@@ -25,7 +25,7 @@ impl Kind for Free {
 
     ghost closes = { free_closes };
 
-    ghost closed = { free_closed };
+    ghost close = { free_close };
 
     ghost facts = { free_facts };
 

@@ -17,7 +17,7 @@ pub(crate) trait Kind {
     ghost closes: { ℕ → ℕ → ℕ → Bool };
 
     // What a permitted write makes of the kind.
-    ghost closed: { Self → ℕ → ℕ → Self };
+    ghost close: { Self → ℕ → ℕ → Self };
 
     // Whether every offset of the span is open.
     fn open(&self, span: Span) -> bool
@@ -26,15 +26,15 @@ pub(crate) trait Kind {
     // Closes what a write closes, where it was permitted.
     fn close(&mut self, span: Span)
         requires { permitted (openness self.old) span.offset span.length ≡ true }
-        ensures { self.new ≡ closed self.old span.offset span.length };
+        ensures { self.new ≡ close self.old span.offset span.length };
 
     // What holds of all of these.
-    ghost facts: { IsKind openness closes closed };
+    ghost facts: { IsKind openness closes close };
 }
 
 // A kind's region has the number 0; all others are closed.
 impl<K: Kind> Policy for K {
-    ghost means = { kind_means K.openness K.closed };
+    ghost means = { kind_means K.openness K.close };
 
     ghost laws = { kind_laws K.facts };
 
@@ -49,7 +49,7 @@ impl<K: Kind> Policy for K {
 
     #[tactic(auto, using(crate::specs::Laws::permitted_alone))]
     fn told(&mut self, region: u64, span: Span)
-        ensures after { self.new ≡ kind_after K.openness K.closed self.old region span.offset span.length }
+        ensures after { self.new ≡ kind_after K.openness K.close self.old region span.offset span.length }
         ensures same { one_region self.new ≡ one_region self.old }
         ensures closes { (r o : ℕ) → kind_opens K.openness self.new r o ≡ left_open (K.closes span.offset span.length) (kind_opens K.openness self.old) region span.offset span.length r o }
     {

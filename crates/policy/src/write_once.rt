@@ -1,7 +1,7 @@
 // The kind whose every offset is written once.
 
 ghost use Rattle.std.specs.Prelude.{◌≡◌, ℕ};
-ghost use Rattle.policy.specs.Kinds.{alone, below, flagged, write_once_closed, write_once_openness, write_once_opens};
+ghost use Rattle.policy.specs.Kinds.{alone, below, flagged, write_once_close, write_once_openness, write_once_opens};
 ghost use Rattle.policy.specs.Laws.{write_once_facts};
 ghost use Rattle.policy.specs.Spans.{covers};
 
@@ -42,7 +42,7 @@ impl Kind for WriteOnce {
 
     ghost closes = { covers };
 
-    ghost closed = { write_once_closed };
+    ghost close = { write_once_close };
 
     ghost facts = { write_once_facts };
 
