@@ -1,4 +1,3 @@
 -- Lemmas of this crate.
 pub mod Permitting
-mod Flags
 mod Telling

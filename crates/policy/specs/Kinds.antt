@@ -1,15 +1,22 @@
--- The three kinds: what each starts with, and what a write closes.
+-- What a kind is, and the three kinds: what each starts with, and what a write closes.
 --
---   alone, one_region                        a kind governs region 0 and no other
---   written                                  what a write makes of a kind
---   left_open                                what a write leaves open
---   below, open_from                         the offsets below one, and those from one up
---   flagged, cleared                         flags for the offsets, and clearing those of a span
---   write_once_opens, write_once_after       write-once
---   append_only_opens, append_only_after     append-only
---   free_opens, free_after                   free
-use Rattle.std.specs.Prelude.{ℕ, zero, suc, ◌+◌, Bool, false, cond, ◌&&◌, List, ◌==◌, nat_le, nat_lt, slice_index_or, slice_set}
-use Rattle.policy.specs.Policies.{permitted}
+--   alone                  a kind governs region 0 and no other
+--   kind_opens             what a kind's policy has open
+--   one_region             how many regions it has
+--   kind_after             what a write makes of it
+--   kind_means             these three together
+--   left_open              what a write leaves open
+--   IsKind                 what holds of every kind
+--   below, open_from       the offsets below one, and those from one up
+--   flagged, cleared       flags for the offsets, and clearing those of a span
+--   write_once_openness, write_once_close, write_once_opens
+--                          write-once: what is open, what a write makes of it, and what its policy has open
+--   append_only_openness, append_only_close, append_only_closes, append_only_opens
+--                          append-only, and which offsets a write closes
+--   free_openness, free_close, free_closes, free_opens
+--                          free
+use Rattle.std.specs.Prelude.{◌≡◌, ℕ, zero, suc, ◌+◌, ◌≤◌, Bool, true, false, if◌then◌else◌, ◌&&◌, List, ◌==◌, nat_le, nat_lt, slice_index_or, slice_set}
+use Rattle.policy.specs.Policies.{Meaning, permitted}
 use Rattle.policy.specs.declared.append_only.AppendOnly.{AppendOnly}
 use Rattle.policy.specs.declared.free.Free.{Free}
 use Rattle.policy.specs.declared.write_once.WriteOnce.{WriteOnce}
@@ -18,17 +25,33 @@ use Rattle.policy.specs.declared.write_once.WriteOnce.{WriteOnce}
 abbrev pub alone : (ℕ → Bool) → ℕ → ℕ → Bool
 alone openness region offset = region == 0 && openness offset
 
+-- What is open in a kind is open in region 0 of its policy.
+abbrev pub kind_opens : {Self : Type 0} → (Self → ℕ → Bool) → Self → ℕ → ℕ → Bool
+kind_opens openness kind = alone (openness kind)
+
 -- Every kind has one region.
 abbrev pub one_region : {Self : Type 0} → Self → ℕ
 one_region _ = 1
 
 -- A write that is permitted changes a kind as `close` says, any other leaves it as it was.
-abbrev pub written : {Self : Type 0} → (Self → ℕ → ℕ → Bool) → (Self → ℕ → ℕ → Self) → Self → ℕ → ℕ → ℕ → Self
-written opens close policy region offset length = cond (permitted (opens policy region) offset length) (close policy offset length) policy
+abbrev pub kind_after : {Self : Type 0} → (Self → ℕ → Bool) → (Self → ℕ → ℕ → Self) → Self → ℕ → ℕ → ℕ → Self
+kind_after openness close kind region offset length = if permitted (kind_opens openness kind region) offset length then close kind offset length else kind
+
+-- What a kind means as a policy.
+abbrev pub kind_means : {Self : Type 0} → (Self → ℕ → Bool) → (Self → ℕ → ℕ → Self) → Meaning Self
+kind_means openness close = record { opens = kind_opens openness; count = one_region; after = kind_after openness close }
 
 -- What is open after a write: what was, less what a permitted write closes in its region.
 abbrev pub left_open : (ℕ → Bool) → (ℕ → ℕ → Bool) → ℕ → ℕ → ℕ → ℕ → ℕ → Bool
-left_open closes opens region offset length r o = cond (permitted (opens region) offset length && (r == region && closes o)) false (opens r o)
+left_open closes opens region offset length r o = if permitted (opens region) offset length && (r == region && closes o) then false else opens r o
+
+-- What holds of every kind, told by which offsets are open (`openness`), which of them a permitted write closes, by its
+-- offset and length (`closes`), and what such a write makes of the kind (`close`).
+pub record IsKind {Self : Type 0} (openness : Self → ℕ → Bool) (closes : ℕ → ℕ → ℕ → Bool) (close : Self → ℕ → ℕ → Self) : Type 0 where
+  -- What lies past the 65,536 offsets is closed.
+  pub ends : (kind : Self) (o : ℕ) → 65536 ≤ o → openness kind o ≡ false
+  -- A permitted write leaves open what was, less what it closes.
+  pub leaves : (kind : Self) (offset length o : ℕ) → permitted (openness kind) offset length ≡ true → openness (close kind offset length) o ≡ (if closes offset length o then false else openness kind o)
 
 -- The offsets below an end.
 abbrev pub below : ℕ → ℕ → Bool
@@ -48,25 +71,45 @@ cleared flags offset zero = flags
 cleared flags offset (suc length) = slice_set (cleared flags offset length) (offset + length) false
 
 -- Write-once: an offset is open while it is flagged as fresh,
-abbrev pub write_once_opens : WriteOnce → ℕ → ℕ → Bool
-write_once_opens policy = alone (flagged policy.fresh)
+abbrev pub write_once_openness : WriteOnce → ℕ → Bool
+write_once_openness policy = flagged policy.fresh
 
 -- and a write clears the flags of its span.
-abbrev pub write_once_after : WriteOnce → ℕ → ℕ → ℕ → WriteOnce
-write_once_after = written write_once_opens (λ policy offset length. record { fresh = cleared policy.fresh offset length })
+abbrev pub write_once_close : WriteOnce → ℕ → ℕ → WriteOnce
+write_once_close policy offset length = record { fresh = cleared policy.fresh offset length }
+
+-- Its policy has this open.
+abbrev pub write_once_opens : WriteOnce → ℕ → ℕ → Bool
+write_once_opens = kind_opens write_once_openness
 
 -- Append-only: the offsets from the mark up are open,
-abbrev pub append_only_opens : AppendOnly → ℕ → ℕ → Bool
-append_only_opens policy = alone (open_from policy.mark)
+abbrev pub append_only_openness : AppendOnly → ℕ → Bool
+append_only_openness policy = open_from policy.mark
 
--- and a write moves the mark to its end.
-abbrev pub append_only_after : AppendOnly → ℕ → ℕ → ℕ → AppendOnly
-append_only_after = written append_only_opens (λ _ offset length. record { mark = offset + length })
+-- a write moves the mark to its end,
+abbrev pub append_only_close : AppendOnly → ℕ → ℕ → AppendOnly
+append_only_close _ offset length = record { mark = offset + length }
+
+-- and so closes what lies below that.
+abbrev pub append_only_closes : ℕ → ℕ → ℕ → Bool
+append_only_closes offset length = below (offset + length)
+
+-- Its policy has this open.
+abbrev pub append_only_opens : AppendOnly → ℕ → ℕ → Bool
+append_only_opens = kind_opens append_only_openness
 
 -- Free: all offsets are open,
-abbrev pub free_opens : Free → ℕ → ℕ → Bool
-free_opens _ = alone (open_from 0)
+abbrev pub free_openness : Free → ℕ → Bool
+free_openness _ = open_from 0
 
--- and a write changes nothing.
-abbrev pub free_after : Free → ℕ → ℕ → ℕ → Free
-free_after = written free_opens (λ policy _ _. policy)
+-- a write changes nothing,
+abbrev pub free_close : Free → ℕ → ℕ → Free
+free_close policy _ _ = policy
+
+-- and closes nothing.
+abbrev pub free_closes : ℕ → ℕ → ℕ → Bool
+free_closes _ _ _ = false
+
+-- Its policy has this open.
+abbrev pub free_opens : Free → ℕ → ℕ → Bool
+free_opens = kind_opens free_openness

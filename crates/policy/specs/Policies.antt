@@ -3,8 +3,9 @@
 --   all_open     whether the offsets of a stretch are all open
 --   permitted    whether a policy says yes
 --   Throughout   that each offset of a stretch is open
+--   Meaning      what is open in a policy, how many regions it has, and what a write makes of it
 --   Lawful       what holds of every policy
-use Rattle.std.specs.Prelude.{◌≡◌, ℕ, zero, suc, ◌+◌, ◌<◌, ◌≤◌, Bool, true, false, ◌&&◌, ◌≢◌, Decides}
+use Rattle.std.specs.Prelude.{◌≡◌, ℕ, zero, suc, ◌+◌, ◌<◌, ◌≤◌, Bool, true, false, ◌&&◌, ◌≢◌, ◌↔◌, IsTrue}
 use Rattle.policy.specs.Spans.{is_span}
 
 -- Whether the offsets from `offset` on, `length` of them, are all open.
@@ -20,22 +21,30 @@ permitted opens offset length = is_span offset length && all_open opens offset l
 abbrev pub Throughout : (ℕ → Bool) → ℕ → ℕ → Type 0
 Throughout opens offset length = (o : ℕ) → offset ≤ o → o < offset + length → opens o ≡ true
 
--- What holds of every policy, told by which offsets of which region are open (`opens`), how many regions
--- it governs (`count`), and what a write to a region, by its offset and length, makes of it (`after`).
-pub record Lawful {Self : Type 0} (opens : Self → ℕ → ℕ → Bool) (count : Self → ℕ) (after : Self → ℕ → ℕ → ℕ → Self) : Type 0 where
+-- What a policy means.
+pub record Meaning (Self : Type 0) : Type 0 where
+  -- Which offsets of which region are open,
+  pub opens : Self → ℕ → ℕ → Bool
+  -- how many regions it governs,
+  pub count : Self → ℕ
+  -- and what a write to a region makes of it, by its offset and its length.
+  pub after : Self → ℕ → ℕ → ℕ → Self
+
+-- What holds of every policy.
+pub record Lawful {Self : Type 0} (m : Meaning Self) : Type 0 where
   -- It governs at most 16 regions,
-  pub few : (policy : Self) → count policy ≤ 16
+  pub few : (policy : Self) → m.count policy ≤ 16
   -- all others are closed throughout,
-  pub past : (policy : Self) (region offset : ℕ) → count policy ≤ region → opens policy region offset ≡ false
+  pub past : (policy : Self) (region offset : ℕ) → m.count policy ≤ region → m.opens policy region offset ≡ false
   -- and so is whatever lies past a region's 65,536 offsets.
-  pub wide : (policy : Self) (region offset : ℕ) → 65536 ≤ offset → opens policy region offset ≡ false
+  pub wide : (policy : Self) (region offset : ℕ) → 65536 ≤ offset → m.opens policy region offset ≡ false
   -- It says yes exactly to a span each of whose offsets is open.
-  pub yes : (policy : Self) (region offset length : ℕ) → Decides (permitted (opens policy region) offset length) ((is_span offset length ≡ true) × Throughout (opens policy region) offset length)
+  pub yes : (policy : Self) (region offset length : ℕ) → IsTrue (permitted (m.opens policy region) offset length) ↔ (IsTrue (is_span offset length) × Throughout (m.opens policy region) offset length)
   -- A write leaves the count as it was.
-  pub same : (policy : Self) (region offset length : ℕ) → count (after policy region offset length) ≡ count policy
+  pub same : (policy : Self) (region offset length : ℕ) → m.count (m.after policy region offset length) ≡ m.count policy
   -- A write to which it would have said no alters nothing.
-  pub refused : (policy : Self) (region offset length : ℕ) → permitted (opens policy region) offset length ≡ false → after policy region offset length ≡ policy
+  pub refused : (policy : Self) (region offset length : ℕ) → permitted (m.opens policy region) offset length ≡ false → m.after policy region offset length ≡ policy
   -- A write alters no other region.
-  pub others : (policy : Self) (region offset length other o : ℕ) → other ≢ region → opens (after policy region offset length) other o ≡ opens policy other o
+  pub others : (policy : Self) (region offset length other o : ℕ) → other ≢ region → m.opens (m.after policy region offset length) other o ≡ m.opens policy other o
   -- Closed stays closed.
-  pub closed : (policy : Self) (region offset length r o : ℕ) → opens policy r o ≡ false → opens (after policy region offset length) r o ≡ false
+  pub closed : (policy : Self) (region offset length r o : ℕ) → m.opens policy r o ≡ false → m.opens (m.after policy region offset length) r o ≡ false

@@ -1,12 +1,11 @@
 // The kind that is written from front to back.
 
 ghost use Rattle.std.specs.Prelude.{◌≡◌, ℕ, ◌+◌};
-ghost use Rattle.policy.specs.Kinds.{alone, append_only_after, append_only_opens, below, left_open, one_region};
-ghost use Rattle.policy.specs.Laws.{append_only_laws};
+ghost use Rattle.policy.specs.Kinds.{alone, append_only_close, append_only_closes, append_only_openness, append_only_opens, below};
+ghost use Rattle.policy.specs.Laws.{append_only_facts};
 
-use crate::marks::open_from;
+use crate::kind::Kind;
 use crate::span::Span;
-use crate::traits::Policy;
 
 // One region: a write closes every offset below its end.
 #[derive(Drop)]
@@ -24,30 +23,21 @@ impl AppendOnly {
     }
 }
 
-impl Policy for AppendOnly {
-    ghost opens = { append_only_opens };
+impl Kind for AppendOnly {
+    ghost openness = { append_only_openness };
 
-    ghost count = { one_region };
+    ghost closes = { append_only_closes };
 
-    ghost after = { append_only_after };
+    ghost close = { append_only_close };
 
-    ghost laws = { append_only_laws };
+    ghost facts = { append_only_facts };
 
-    fn regions(&self) -> u64 {
-        1
+    #[tactic(auto, using(crate::proofs::Permitting::first_open))]
+    fn open(&self, span: Span) -> bool {
+        self.mark <= span.offset()
     }
 
-    fn permits(&self, region: u64, span: Span) -> bool {
-        open_from(self.mark, region, span)
-    }
-
-    fn told(&mut self, region: u64, span: Span)
-        ensures after { self.new ≡ append_only_after self.old region span.offset span.length }
-        ensures same { one_region self.new ≡ one_region self.old }
-        ensures closes { (r o : ℕ) → append_only_opens self.new r o ≡ left_open (below (span.offset + span.length)) (append_only_opens self.old) region span.offset span.length r o }
-    {
-        if open_from(self.mark, region, span) {
-            self.mark = span.end();
-        }
+    fn close(&mut self, span: Span) {
+        self.mark = span.end();
     }
 }

@@ -1,12 +1,11 @@
 // The kind that stays open.
 
-ghost use Rattle.std.specs.Prelude.{◌≡◌, ℕ, false};
-ghost use Rattle.policy.specs.Kinds.{alone, below, free_after, free_opens, left_open, one_region};
-ghost use Rattle.policy.specs.Laws.{free_laws};
+ghost use Rattle.std.specs.Prelude.{◌≡◌, ℕ};
+ghost use Rattle.policy.specs.Kinds.{alone, below, free_close, free_closes, free_openness, free_opens};
+ghost use Rattle.policy.specs.Laws.{free_facts};
 
-use crate::marks::open_from;
+use crate::kind::Kind;
 use crate::span::Span;
-use crate::traits::Policy;
 
 // One region, whose offsets are all open for ever.
 #[derive(Drop)]
@@ -21,26 +20,19 @@ impl Free {
     }
 }
 
-impl Policy for Free {
-    ghost opens = { free_opens };
+impl Kind for Free {
+    ghost openness = { free_openness };
 
-    ghost count = { one_region };
+    ghost closes = { free_closes };
 
-    ghost after = { free_after };
+    ghost close = { free_close };
 
-    ghost laws = { free_laws };
+    ghost facts = { free_facts };
 
-    fn regions(&self) -> u64 {
-        1
+    #[tactic(auto, using(crate::proofs::Permitting::first_open))]
+    fn open(&self, _span: Span) -> bool {
+        true
     }
 
-    fn permits(&self, region: u64, span: Span) -> bool {
-        open_from(0, region, span)
-    }
-
-    fn told(&mut self, region: u64, span: Span)
-        ensures after { self.new ≡ free_after self.old region span.offset span.length }
-        ensures same { one_region self.new ≡ one_region self.old }
-        ensures closes { (r o : ℕ) → free_opens self.new r o ≡ left_open (λ _. false) (free_opens self.old) region span.offset span.length r o }
-    {}
+    fn close(&mut self, _span: Span) {}
 }

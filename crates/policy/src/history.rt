@@ -6,7 +6,7 @@ use crate::span::Span;
 use crate::traits::Policy;
 
 // A write as a policy is told of it.
-#[derive(Clone, Copy)]
+#[derive(Clone, Copy, Debug, PartialEq, Eq)]
 pub struct Write {
     pub region: u64,
     pub span: Span,
@@ -14,7 +14,7 @@ pub struct Write {
 
 // Tells the policy of each write.
 fn tell_each<P: Policy>(policy: &mut P, writes: &[Write])
-    ensures { History P.opens P.count P.after policy.old writes.now policy.new }
+    ensures { History P.means policy.old writes.now policy.new }
 {
     for write in writes {
         policy.told(write.region, write.span);
@@ -23,7 +23,7 @@ fn tell_each<P: Policy>(policy: &mut P, writes: &[Write])
 
 // Tells the policy of writes, in their order. At every point of such a history, what was closed before is closed.
 pub fn tell_all<P: Policy>(policy: &mut P, writes: &[Write])
-    ensures { History P.opens P.count P.after policy.old writes.now policy.new }
+    ensures { History P.means policy.old writes.now policy.new }
 {
     tell_each(policy, writes);
 }

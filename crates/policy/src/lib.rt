@@ -5,7 +5,7 @@
 pub mod append_only;
 pub mod free;
 pub mod history;
-mod marks;
+mod kind;
 pub mod pair;
 pub mod span;
 #[cfg(test)]

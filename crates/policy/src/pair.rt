@@ -2,10 +2,11 @@
 
 ghost use Rattle.std.specs.Prelude.{◌≡◌};
 ghost use Rattle.policy.specs.PairLaws.{pair_laws};
-ghost use Rattle.policy.specs.Pairs.{pair_after, pair_count, pair_opens, SideBySide};
+ghost use Rattle.policy.specs.Pairs.{pair_means, SideBySide};
 
 use crate::span::Span;
 use crate::traits::{MOST_REGIONS, Policy};
+use std::marker::Model;
 
 // Two policies as one: the second's regions follow the first's.
 #[derive(Drop)]
@@ -14,22 +15,24 @@ pub struct Pair<A, B> {
     second: B,
 }
 
+impl<A, B> Model for Pair<A, B> {
+    ghost Value = { A × B };
+
+    ghost view = { λ pair. (pair.first, pair.second) };
+}
+
 impl<A: Policy, B: Policy> Pair<A, B> {
     // The two side by side.
     pub fn new(first: A, second: B) -> Pair<A, B>
-        ensures same { (result.first ≡ first) × (result.second ≡ second) }
-        ensures shows { SideBySide A.Policy.opens A.Policy.count A.Policy.after B.Policy.opens B.Policy.count B.Policy.after result }
+        ensures same { result ≡ (first, second) }
+        ensures shows { SideBySide A.Policy.means B.Policy.means result }
     {
         Pair { first, second }
     }
 }
 
 impl<A: Policy, B: Policy> Policy for Pair<A, B> {
-    ghost opens = { pair_opens A.Policy.opens A.Policy.count B.Policy.opens };
-
-    ghost count = { pair_count A.Policy.count B.Policy.count };
-
-    ghost after = { pair_after A.Policy.count A.Policy.after B.Policy.after };
+    ghost means = { pair_means A.Policy.means B.Policy.means };
 
     ghost laws = { pair_laws A.Policy.laws B.Policy.laws };
 
@@ -38,6 +41,7 @@ impl<A: Policy, B: Policy> Policy for Pair<A, B> {
         both.min(MOST_REGIONS)
     }
 
+    #[tactic(auto, using(crate::proofs::Permitting::permitted_none))]
     fn permits(&self, region: u64, span: Span) -> bool {
         let firsts = self.first.regions();
         if region < firsts {

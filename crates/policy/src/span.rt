@@ -8,10 +8,10 @@ ghost use Rattle.policy.specs.Spans.{span_of};
 pub const OFFSETS: u64 = 65536;
 
 // Some of a region's offsets, one or more, that lie one behind the other.
-#[derive(Clone, Copy)]
+#[derive(Clone, Copy, Debug, PartialEq, Eq)]
 pub struct Span {
-    offset: u64,
-    length: u64,
+    pub offset: u64,
+    pub length: u64,
     ghost some: { 1 ≤ length },
     ghost inside: { offset + length ≤ 65536 },
 }

@@ -9,36 +9,22 @@ use crate::traits::Policy;
 use crate::write_once::WriteOnce;
 use std::process::Abort;
 
-type Two = Pair<AppendOnly, AppendOnly>;
+type Twice<P> = Pair<P, P>;
 
-type Four = Pair<Two, Two>;
-
-type Eight = Pair<Four, Four>;
-
-type Sixteen = Pair<Eight, Eight>;
-
-fn two() -> Two {
-    Pair::new(AppendOnly::new(), AppendOnly::new())
+// Two policies that are made alike, side by side.
+fn twice<P: Policy, F: Fn() -> P>(make: F) -> Twice<P>
+    requires { F.IsAlwaysCallable make }
+{
+    Pair::new(make(), make())
 }
 
-fn four() -> Four {
-    Pair::new(two(), two())
-}
-
-fn eight() -> Eight {
-    Pair::new(four(), four())
-}
-
-fn sixteen() -> Sixteen {
-    Pair::new(eight(), eight())
+fn sixteen() -> Twice<Twice<Twice<Twice<AppendOnly>>>> {
+    twice(|| twice(|| twice(|| twice(AppendOnly::new))))
 }
 
 // Asks about a stretch; what is no span is not permitted.
 fn asks<P: Policy>(policy: &P, region: u64, offset: u64, length: u64) -> bool {
-    match Span::new(offset, length) {
-        Some(span) => policy.permits(region, span),
-        None => false,
-    }
+    Span::new(offset, length).is_some_and(|span| policy.permits(region, span))
 }
 
 // Tells of a write.
@@ -63,15 +49,19 @@ fn spans(rt: HostRuntime) {
     assert_eq!(rt; last.length(), 1);
     assert_eq!(rt; last.end(), 65536);
     assert!(rt; Span::new(0, 65536).is_some());
-    assert!(rt; Span::new(65535, 2).is_none());
-    assert!(rt; Span::new(65536, 0).is_none());
-    assert!(rt; Span::new(65536, 1).is_none());
-    assert!(rt; Span::new(0, 0).is_none());
-    assert!(rt; Span::new(0, 65537).is_none());
-    assert!(rt; Span::new(u64::MAX, 1).is_none());
-    assert!(rt; Span::new(u64::MAX, 2).is_none());
-    assert!(rt; Span::new(2, u64::MAX).is_none());
-    assert!(rt; Span::new(0xffff_ffff, 2).is_none());
+    for (offset, length) in [
+        (65535, 2),
+        (65536, 0),
+        (65536, 1),
+        (0, 0),
+        (0, 65537),
+        (u64::MAX, 1),
+        (u64::MAX, 2),
+        (2, u64::MAX),
+        (0xffff_ffff, 2),
+    ] {
+        assert!(rt; Span::new(offset, length).is_none());
+    }
 }
 
 #[test]

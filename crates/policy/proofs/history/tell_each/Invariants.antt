@@ -5,5 +5,5 @@ use Rattle.policy.specs.Histories.{after_all}
 
 abbrev pub invariant-loop-write : goal.invariant-loop-write
 invariant-loop-write g l =
-    (l.policy ≡ after_all g.P.Policy.after l.initial.policy (take l.write-index l.writes)) ×
-    (g.P.Policy.count l.policy ≡ g.P.Policy.count l.initial.policy)
+    (l.policy ≡ after_all g.P.Policy.means l.initial.policy (take l.write-index l.writes)) ×
+    (g.P.Policy.means.count l.policy ≡ g.P.Policy.means.count l.initial.policy)
