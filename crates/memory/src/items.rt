@@ -38,6 +38,9 @@ pub trait Item<const N: usize>: Copy {
     // The item that is nought.
     fn zero() -> Self
         ensures { result ≡ nought };
+
+    // A clone of an item is that item.
+    ghost clones: { (item clone : Self) → Self.Clone.is_clone item clone → clone ≡ item };
 }
 
 impl Item<1> for u64 {
@@ -46,6 +49,8 @@ impl Item<1> for u64 {
     ghost items_of = { λ w. w ∷ [] };
 
     ghost nought = { 0 };
+
+    ghost clones = { λ _ _ same. same };
 
     ghost words = { shown };
 
@@ -79,6 +84,8 @@ impl Item<8> for u8 {
     ghost items_of = { bytes_of };
 
     ghost nought = { 0 };
+
+    ghost clones = { λ _ _ same. same };
 
     ghost words = { words_of };
 

@@ -1,20 +1,19 @@
--- The commands of a script, and which line spells which.
+-- The commands of a script, which line spells which, and how a command is printed.
 --
 --   Said, said      what a command says: the command with its bytes as a list
+--   echo            a command as it is printed
 --   command_of      the command that a text without comment spells
 --   reading         what a whole line comes to
-use Rattle.std.specs.Prelude.{ℕ, Bool, true, false, cond, not, ◌&&◌, List, length, Some, None, vec_items, codes, Option, ◌==◌, nat_le}
-use Rattle.std.specs.Option.{option_map}
+use Rattle.std.specs.Prelude.{ℕ, Bool, cond, List, ◌++◌, length, Some, None, vec_items, codes, decimal, Option, ◌==◌, nat_le}
+use Rattle.std.specs.Option.{option_and_then, option_map}
 use Rattle.std.specs.Str.{bytes_eq}
 use Rattle.script.specs.declared.commands.Command.{Command}
 use Rattle.script.specs.declared.commands.Command.TheVariants as command
-use Rattle.script.specs.declared.commands.Keyword.{Keyword}
-use Rattle.script.specs.declared.commands.Keyword.TheVariants as keyword
 use Rattle.script.specs.declared.commands.ListKind.{ListKind}
 use Rattle.script.specs.declared.commands.ListKind.TheVariants.{Words, Bytes}
-use Rattle.text.specs.Lines.{line_text, command_part, word_at}
+use Rattle.text.specs.Lines.{line_text, command_part, after_word, word_at}
 use Rattle.text.specs.Numbers.{number_of, bytes_of}
-use Rattle.text.specs.Outcomes.{then}
+use Rattle.text.specs.Texts.{hexadecimal, hex_bytes}
 
 -- a command as a value: its figures, and its bytes as a list
 pub data Said : Type 0 where
@@ -27,6 +26,17 @@ abbrev pub said : Command → Said
 said (command.Memory kind size) = memory kind size
 said (command.Word frame index value) = word frame index value
 said (command.Scan bytes) = scan (vec_items bytes)
+
+-- the name of a kind of list, as it is read and printed
+abbrev pub kind_name : ListKind → List ℕ
+kind_name Words = codes "words"
+kind_name Bytes = codes "bytes"
+
+-- the words of the line, in one form
+abbrev pub echo : Said → List ℕ
+echo (memory kind size) = codes "memory " ++ (kind_name kind ++ (codes " " ++ decimal size))
+echo (word frame index value) = codes "word " ++ (decimal frame ++ (codes " " ++ (decimal index ++ (codes " " ++ hexadecimal value))))
+echo (scan bytes) = codes "scan " ++ hex_bytes bytes
 
 -- that a text has no word at a place, and so none behind it
 abbrev pub ends_before : List ℕ → ℕ → Bool
@@ -52,42 +62,33 @@ abbrev pub most : ListKind → ℕ
 most Words = 1048576
 most Bytes = 8388608
 
--- memory words N, memory bytes N
-abbrev pub memory_of : List ℕ → Option Said
-memory_of t = then (kind_of (word_at t 1)) (λ k. then (decimal_at t 2) (λ n. cond (nat_le n (most k)) (only t 3 (memory k n)) None))
+-- memory words N, memory bytes N: what stands behind the first word
+unfoldable pub memory_of : List ℕ → Option Said
+memory_of t = option_and_then (λ k. option_and_then (λ n. cond (nat_le n (most k)) (only t 2 (memory k n)) None) (decimal_at t 1)) (kind_of (word_at t 0))
 
 -- word FRAME INDEX WORD
-abbrev pub word_of : List ℕ → Option Said
-word_of t = then (decimal_at t 1) (λ f. then (decimal_at t 2) (λ i. then (hexadecimal_at t 3) (λ w. only t 4 (word f i w))))
+unfoldable pub word_of : List ℕ → Option Said
+word_of t = option_and_then (λ f. option_and_then (λ i. option_and_then (λ w. only t 3 (word f i w)) (hexadecimal_at t 2)) (decimal_at t 1)) (decimal_at t 0)
 
 -- scan BYTES
-abbrev pub scan_of : List ℕ → Option Said
-scan_of t = then (bytes_of (word_at t 1)) (λ bs. only t 2 (scan bs))
+unfoldable pub scan_of : List ℕ → Option Said
+scan_of t = option_and_then (λ bs. only t 1 (scan bs)) (bytes_of (word_at t 0))
 
--- the commands by their names
-abbrev pub keyword_of : List ℕ → Option Keyword
-keyword_of w = cond (bytes_eq w (codes "memory")) (Some keyword.Memory) (cond (bytes_eq w (codes "word")) (Some keyword.Word) (cond (bytes_eq w (codes "scan")) (Some keyword.Scan) None))
-
--- the rest of the text, by its first word
-abbrev pub spelled : Keyword → List ℕ → Option Said
-spelled keyword.Memory t = memory_of t
-spelled keyword.Word t = word_of t
-spelled keyword.Scan t = scan_of t
+-- the commands by their names, with what stands behind the name
+abbrev pub spelled : List ℕ → List ℕ → Option Said
+spelled name t =
+    cond (bytes_eq name (codes "memory")) (memory_of t)
+    (cond (bytes_eq name (codes "word")) (word_of t)
+    (cond (bytes_eq name (codes "scan")) (scan_of t) None))
 
 -- a text is a command by its first word and those behind it
 abbrev pub command_of : List ℕ → Option Said
-command_of t = then (keyword_of (word_at t 0)) (λ k. spelled k t)
+command_of t = spelled (word_at t 0) (after_word t)
 
 -- nothing to do on a line with no word before its comment, else its command; none where the line cannot be read
 abbrev pub reading : List ℕ → Option (Option Said)
 reading l = cond (ends_before (command_part (line_text l)) 0) (Some None) (option_map Some (command_of (command_part (line_text l))))
 
 -- whether a line is to be read as `scan`, the one command that takes memory when it is read
-abbrev pub is_scan : Option Keyword → Bool
-is_scan None = false
-is_scan (Some keyword.Memory) = false
-is_scan (Some keyword.Word) = false
-is_scan (Some keyword.Scan) = true
-
 abbrev pub scans : List ℕ → Bool
-scans l = not (ends_before (command_part (line_text l)) 0) && is_scan (keyword_of (word_at (command_part (line_text l)) 0))
+scans l = bytes_eq (word_at (command_part (line_text l)) 0) (codes "scan")

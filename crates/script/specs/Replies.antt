@@ -1,39 +1,18 @@
 -- What the console prints for a line, and what the line leaves behind.
 --
---   echo            a command as it is printed
---   answer_text     an answer as it is printed
 --   cannot_read     what is printed for a line that cannot be read
 --   reply           what is printed for a line
 --   after_line      what a session holds after a line
 --   Replied         both, of a call
 --   Whole           that a line was carried out whole or not at all
-use Rattle.std.specs.Prelude.{◌≡◌, ℕ, false, cond, ◌⊎◌, List, [], ◌∷◌, ◌++◌, is_some, Some, None, codes, decimal, Option}
-use Rattle.script.specs.declared.commands.ListKind.{ListKind}
-use Rattle.script.specs.declared.commands.ListKind.TheVariants.{Words, Bytes}
+--   Answered        what came of a line, before one that cannot be read is answered
+use Rattle.std.specs.Prelude.{◌≡◌, ℕ, false, cond, ◌⊎◌, List, [], ◌∷◌, ◌++◌, is_some, Some, None, Ok, Err, codes, decimal, Option, Result}
 use Rattle.script.specs.declared.session.Answer.{Answer}
-use Rattle.script.specs.declared.session.Answer.TheVariants.{Frames, Done, Passes, Fails}
-use Rattle.script.specs.Commands.{Said, memory, word, scan, ends_before, reading}
+use Rattle.script.specs.Commands.{Said, echo, ends_before, reading}
+use Rattle.text.specs.declared.outcomes.Unread.{Unread}
+use Rattle.text.specs.declared.outcomes.Unread.TheVariants.{Unreadable, Memory}
 use Rattle.text.specs.Lines.{line_text, command_part, shown_text}
-use Rattle.script.specs.Sessions.{answer_of, held_after}
-use Rattle.text.specs.Texts.{hexadecimal, hex_bytes}
-
--- the name of a kind of list, as it is read and printed
-abbrev pub kind_name : ListKind → List ℕ
-kind_name Words = codes "words"
-kind_name Bytes = codes "bytes"
-
--- the words of the line, in one form
-abbrev pub echo : Said → List ℕ
-echo (memory kind size) = codes "memory " ++ (kind_name kind ++ (codes " " ++ decimal size))
-echo (word frame index value) = codes "word " ++ (decimal frame ++ (codes " " ++ (decimal index ++ (codes " " ++ hexadecimal value))))
-echo (scan bytes) = codes "scan " ++ hex_bytes bytes
-
--- what stands behind the colon
-abbrev pub answer_text : Answer → List ℕ
-answer_text (Frames n) = decimal n ++ codes " frames"
-answer_text Done = codes "ok"
-answer_text Passes = codes "passes"
-answer_text Fails = codes "fails"
+use Rattle.script.specs.Sessions.{answer_of, answer_text, held_after}
 
 -- a line feed
 abbrev pub line_feed : List ℕ
@@ -81,3 +60,9 @@ pub record Replied (number : ℕ) (line : List ℕ) (m m' : Option (List ℕ)) (
 pub record Whole (line : List ℕ) (m m' : Option (List ℕ)) : Type 0 where
   pub holds : (m' ≡ m) ⊎ (m' ≡ after_line line m)
   pub asks : ends_before (command_part (line_text line)) 0 ≡ false
+
+-- what came of a line, before one that cannot be read is answered: the list is then as it was, and that answer is all that is owed
+abbrev pub Answered : Result (Unit {0}) Unread → List ℕ → Option (List ℕ) → Option (List ℕ) → List ℕ → List ℕ → Type 0
+Answered (Ok _) line m m' was is = ((number : ℕ) → is ≡ was ++ reply number line m) × (m' ≡ after_line line m)
+Answered (Err Unreadable) line m m' was is = (is ≡ was) × ((number : ℕ) → reply number line m ≡ cannot_read number line) × (m' ≡ after_line line m)
+Answered (Err Memory) line m m' was is = Whole line m m'

@@ -1,23 +1,25 @@
--- What a command does to a session, and what answers it.
+-- What a command does to a session, and what answers it. A session is seen as the words that its memory shows, if it has one.
 --
---   held            the words of the memory that a session has, if it has one
+--   answer_text     an answer as it is printed
 --   answer_of       the answer to a command; none where it cannot be read at this point
 --   held_after      the words after a command that was answered
 --   Carries         that a call answered a command, and left the session as it should
-use Rattle.std.specs.Prelude.{◌≡◌, ℕ, ◌+◌, ◌*◌, Bool, true, false, cond, ◌&&◌, List, length, replicate, is_ok, Some, None, Option, Result, nat_lt, slice_set}
+use Rattle.std.specs.Prelude.{◌≡◌, ℕ, ◌+◌, ◌*◌, Bool, true, false, cond, ◌&&◌, List, ◌++◌, length, replicate, is_ok, Some, None, codes, decimal, Option, Result, nat_lt, slice_set}
 use Rattle.std.specs.Option.{option_map}
 use Rattle.scanner.specs.Rule.{passing}
 use Rattle.text.specs.declared.outcomes.Unread.{Unread}
 use Rattle.script.specs.declared.session.Answer.{Answer}
 use Rattle.script.specs.declared.session.Answer.TheVariants.{Frames, Done, Passes, Fails}
-use Rattle.script.specs.declared.session.Session.{Session}
 use Rattle.script.specs.Commands.{Said, memory, word, scan}
 use Rattle.text.specs.Outcomes.{Gives, wants_memory}
-use Rattle.script.specs.Supplies.{supplied_words, frames_for}
+use Rattle.script.specs.Supplies.{frames_for}
 
--- the words that the memory shows, where there is a memory
-abbrev pub held : Session → Option (List ℕ)
-held s = option_map supplied_words s.memory
+-- what stands behind the colon
+abbrev pub answer_text : Answer → List ℕ
+answer_text (Frames n) = decimal n ++ codes " frames"
+answer_text Done = codes "ok"
+answer_text Passes = codes "passes"
+answer_text Fails = codes "fails"
 
 -- `word` has its place in the memory where its index is in the frame, and the frame is shown
 abbrev pub preset_answer : Option (List ℕ) → ℕ → ℕ → Option Answer

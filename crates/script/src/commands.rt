@@ -1,15 +1,18 @@
 // The commands of a script, and how a line is read into one.
-ghost use Rattle.std.specs.Prelude.{◌≡◌, true, false, Some};
-ghost use Rattle.std.specs.Option.{option_map};
-ghost use Rattle.script.specs.declared.commands.Keyword.TheVariants.{Scan};
-ghost use Rattle.script.specs.Commands.{said, ends_before, decimal_at, hexadecimal_at, kind_of, most, memory_of, word_of, scan_of, keyword_of, command_of, reading, scans};
-ghost use Rattle.text.specs.Lines.{word_at};
+ghost use Rattle.std.specs.Prelude.{◌≡◌, ◌==◌, true, false, length, codes, Some};
+ghost use Rattle.std.specs.Option.{ok_or, option_map};
+ghost use Rattle.std.specs.Str.{bytes_eq};
+ghost use Rattle.script.specs.Commands.{said, echo, kind_of, kind_name, most, memory_of, word_of, scan_of, spelled, reading, scans};
+ghost use Rattle.text.specs.Lines.{after_word, first_word};
 ghost use Rattle.text.specs.Outcomes.{Gives, wants_memory};
+ghost use Rattle.text.specs.declared.outcomes.Unread.TheVariants.{Unreadable};
 
 use std::alloc::Global;
-use text::lines::{command_part, is_word, line_text, word};
+use std::fmt;
+use text::lines::{Words, command_part, line_text};
 use text::numbers::{bytes, decimal, hexadecimal};
 use text::outcomes::Unread;
+use text::printing::{HexBytes, Hexadecimal};
 
 // What a supplied list is made of.
 #[derive(Clone, Copy, Debug, PartialEq, Eq)]
@@ -30,6 +33,32 @@ impl ListKind {
     }
 }
 
+// A kind by its name.
+impl TryFrom<&[u8]> for ListKind {
+    type Error = Unread;
+
+    ghost try_from_gives = { λ word result. result ≡ ok_or (kind_of word.now) Unreadable };
+
+    fn try_from(word: &[u8]) -> Result<ListKind, Unread> {
+        match word {
+            b"words" => Ok(ListKind::Words),
+            b"bytes" => Ok(ListKind::Bytes),
+            _ => Err(Unread::Unreadable),
+        }
+    }
+}
+
+impl fmt::Display for ListKind {
+    ghost output = { λ kind. Some (kind_name kind) };
+
+    fn fmt<W: fmt::Write>(&self, f: &mut fmt::Formatter<W>) -> fmt::Result {
+        match self {
+            ListKind::Words => write!(f, "words"),
+            ListKind::Bytes => write!(f, "bytes"),
+        }
+    }
+}
+
 // What a line asks for.
 #[derive(Debug, Drop)]
 pub enum Command {
@@ -38,132 +67,119 @@ pub enum Command {
     Scan { bytes: Vec<u8> },
 }
 
-// The first word of a line.
-#[derive(Clone, Copy)]
-enum Keyword {
-    Memory,
-    Word,
-    Scan,
-}
+// A command as it is printed, in one form.
+impl fmt::Display for Command {
+    ghost output = { λ command. Some (echo (said command)) };
 
-fn first_word(text: &[u8]) -> Option<Keyword>
-    ensures { result ≡ keyword_of (word_at text.now 0) }
-{
-    if is_word(text, 0, b"memory") {
-        return Some(Keyword::Memory);
+    fn fmt<W: fmt::Write>(&self, f: &mut fmt::Formatter<W>) -> fmt::Result {
+        match self {
+            Command::Memory { kind, size } => write!(f, "memory {kind} {size}"),
+            Command::Word {
+                frame,
+                index,
+                value,
+            } => write!(f, "word {frame} {index} {}", Hexadecimal(*value)),
+            Command::Scan { bytes } => write!(f, "scan {}", HexBytes(bytes.as_slice())),
+        }
     }
-    if is_word(text, 0, b"word") {
-        return Some(Keyword::Word);
+}
+
+// The names of the commands.
+const MEMORY: &[u8] = b"memory";
+
+const WORD: &[u8] = b"word";
+
+const SCAN: &[u8] = b"scan";
+
+// The next word of a text; empty where there is none.
+fn next_word<'a>(words: &mut Words<'a>) -> &'a [u8]
+    ensures is { result.now ≡ first_word words.old }
+    ensures after { words.new ≡ after_word words.old }
+{
+    words.next().unwrap_or(b"")
+}
+
+// Whether no word is left.
+fn ends(words: &mut Words<'_>) -> bool
+    ensures is { result ≡ (length (first_word words.old) == 0) }
+    ensures after { words.new ≡ after_word words.old }
+{
+    words.next().is_none()
+}
+
+// memory words N, memory bytes N: the words behind the first
+#[tactic(auto, unfolding(crate::specs::Commands::memory_of, text::specs::Lines::after_words))]
+fn memory_command(words: &mut Words<'_>) -> Result<Command, Unread>
+    ensures wants { wants_memory result ≡ false }
+    ensures gives { Gives said result (memory_of words.old) }
+{
+    let kind = ListKind::try_from(next_word(words))?;
+    let size = decimal(next_word(words)).ok_or(Unread::Unreadable)?;
+    if size <= kind.longest() && ends(words) {
+        return Ok(Command::Memory { kind, size });
     }
-    if is_word(text, 0, b"scan") {
-        return Some(Keyword::Scan);
-    }
-    None
+    Err(Unread::Unreadable)
 }
 
-fn kind_word(text: &[u8]) -> Option<ListKind>
-    ensures { result ≡ kind_of (word_at text.now 1) }
+// word FRAME INDEX WORD: the words behind the first
+#[tactic(auto, unfolding(crate::specs::Commands::word_of, text::specs::Lines::after_words))]
+fn word_command(words: &mut Words<'_>) -> Result<Command, Unread>
+    ensures wants { wants_memory result ≡ false }
+    ensures gives { Gives said result (word_of words.old) }
 {
-    if is_word(text, 1, b"words") {
-        return Some(ListKind::Words);
-    }
-    if is_word(text, 1, b"bytes") {
-        return Some(ListKind::Bytes);
-    }
-    None
-}
-
-// Whether the text has no word at the place, and so none behind it.
-fn ends(text: &[u8], place: usize) -> bool
-    ensures { result ≡ ends_before text.now place }
-{
-    word(text, place).is_empty()
-}
-
-fn decimal_word(text: &[u8], place: usize) -> Option<u64>
-    ensures { result ≡ decimal_at text.now place }
-{
-    decimal(word(text, place))
-}
-
-fn hexadecimal_word(text: &[u8], place: usize) -> Option<u64>
-    ensures { result ≡ hexadecimal_at text.now place }
-{
-    hexadecimal(word(text, place))
-}
-
-// memory words N, memory bytes N
-fn memory_command(text: &[u8]) -> Option<Command>
-    ensures { option_map said result ≡ memory_of text.now }
-{
-    let kind = kind_word(text)?;
-    let size = decimal_word(text, 2)?;
-    if size <= kind.longest() && ends(text, 3) {
-        return Some(Command::Memory { kind, size });
-    }
-    None
-}
-
-// word FRAME INDEX WORD
-fn word_command(text: &[u8]) -> Option<Command>
-    ensures { option_map said result ≡ word_of text.now }
-{
-    let frame = decimal_word(text, 1)?;
-    let index = decimal_word(text, 2)?;
-    let value = hexadecimal_word(text, 3)?;
-    if ends(text, 4) {
-        return Some(Command::Word {
+    let frame = decimal(next_word(words)).ok_or(Unread::Unreadable)?;
+    let index = decimal(next_word(words)).ok_or(Unread::Unreadable)?;
+    let value = hexadecimal(next_word(words)).ok_or(Unread::Unreadable)?;
+    if ends(words) {
+        return Ok(Command::Word {
             frame,
             index,
             value,
         });
     }
-    None
+    Err(Unread::Unreadable)
 }
 
-// scan BYTES
-fn scan_command(heap: Global, text: &[u8]) -> Result<Command, Unread>
-    ensures { Gives said result (scan_of text.now) }
+// scan BYTES: the words behind the first
+#[tactic(auto, unfolding(crate::specs::Commands::scan_of, text::specs::Lines::after_words))]
+fn scan_command(heap: Global, words: &mut Words<'_>) -> Result<Command, Unread>
+    ensures { Gives said result (scan_of words.old) }
 {
-    let bytes = bytes(heap, word(text, 1))?;
-    if ends(text, 2) {
+    let bytes = bytes(heap, next_word(words))?;
+    if ends(words) {
         return Ok(Command::Scan { bytes });
     }
     Err(Unread::Unreadable)
 }
 
-// A command that was read without taking memory.
-fn readable(command: Option<Command>) -> Result<Command, Unread>
-    ensures wants { wants_memory result ≡ false }
-    ensures gives { Gives said result (option_map said command) }
+// The command of that name, with the words behind it.
+fn named(heap: Global, name: &[u8], words: &mut Words<'_>) -> Result<Command, Unread>
+    ensures wants { wants_memory result ≡ true → bytes_eq name.now (codes "scan") ≡ true }
+    ensures gives { Gives said result (spelled name.now words.old) }
 {
-    match command {
-        Some(command) => Ok(command),
-        None => Err(Unread::Unreadable),
+    if name == MEMORY {
+        return memory_command(words);
     }
-}
-
-fn any_command(heap: Global, text: &[u8]) -> Result<Command, Unread>
-    ensures wants { wants_memory result ≡ true → keyword_of (word_at text.now 0) ≡ Some Scan }
-    ensures gives { Gives said result (command_of text.now) }
-{
-    match first_word(text) {
-        Some(Keyword::Memory) => readable(memory_command(text)),
-        Some(Keyword::Word) => readable(word_command(text)),
-        Some(Keyword::Scan) => scan_command(heap, text),
-        None => Err(Unread::Unreadable),
+    if name == WORD {
+        return word_command(words);
     }
+    if name == SCAN {
+        return scan_command(heap, words);
+    }
+    Err(Unread::Unreadable)
 }
 
 // Reads a line, with or without its line end. A line that holds no word before its comment asks for nothing.
+#[tactic(auto, unfolding(text::specs::Lines::after_words))]
 pub fn read(heap: Global, line: &[u8]) -> Result<Option<Command>, Unread>
     ensures wants { wants_memory result ≡ true → scans line.now ≡ true }
     ensures gives { Gives (option_map said) result (reading line.now) }
 {
-    let text = command_part(line_text(line));
-    if ends(text, 0) {
+    let mut words = Words::new(command_part(line_text(line)));
+    let name = next_word(&mut words);
+    if name.is_empty() {
         return Ok(None);
     }
-    let command = any_command(heap, text)?;
+    let command = named(heap, name, &mut words)?;
     Ok(Some(command))
 }

@@ -62,9 +62,7 @@ fn a_session(rt: HostRuntime) -> Result<(), Fail> {
         ),
     ];
     let mut session = Session::new();
-    let mut number = 0u64;
-    for (line, printed) in script {
-        number = number.saturating_add(1);
+    for (number, (line, printed)) in (1..).zip(script) {
         let mut reply = Vec::new(heap);
         session.line(heap, number, line, &mut reply)?;
         assert!(rt; reply.as_slice() == printed, "{}", number);
