@@ -1,11 +1,12 @@
 // What a memory's list is made of: words, or the bytes of words.
 
 ghost use Rattle.std.specs.Prelude.{◌≡◌, ℕ, List, [], ◌∷◌, slice_set};
-ghost use Rattle.memory.specs.ByteLaws.{first, byte_laws};
+ghost use Rattle.memory.specs.ByteLaws.{first, byte_facts};
 ghost use Rattle.memory.specs.ByteOrder.{words_of, bytes_of, put_word, ByteOrder};
+ghost use Rattle.memory.specs.ItemLaws.{shows};
 ghost use Rattle.memory.specs.Items.{Shows};
 ghost use Rattle.memory.specs.Memories.{shown};
-ghost use Rattle.memory.specs.WordLaws.{sole, word_laws};
+ghost use Rattle.memory.specs.WordLaws.{sole, word_facts};
 
 // An item of a list, where each word is N of them.
 pub trait Item<const N: usize>: Copy {
@@ -56,7 +57,7 @@ impl Item<1> for u64 {
 
     ghost put = { slice_set };
 
-    ghost laws = { word_laws };
+    ghost laws = { shows word_facts };
 
     fn word(items: [u64; 1]) -> u64
         ensures { result ≡ sole items }
@@ -91,7 +92,7 @@ impl Item<8> for u8 {
 
     ghost put = { put_word };
 
-    ghost laws = { byte_laws };
+    ghost laws = { shows byte_facts };
 
     #[tactic(auto, unfolding(crate::specs::ByteOrder::word_of))]
     fn word(items: [u8; 8]) -> u64
@@ -114,8 +115,6 @@ impl Item<8> for u8 {
 }
 
 // The order of bytes: a word begins with its low byte.
-pub fn byte_order_stands() -> u8
+pub fn byte_order_stands()
     ensures { ByteOrder }
-{
-    0
-}
+{}

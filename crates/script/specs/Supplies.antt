@@ -4,11 +4,12 @@
 --   frames_for                       how many frames a list of a length shows
 --   supplied_laws                    that it is a memory
 use Rattle.std.specs.Prelude.{◌≡◌, ℕ, ◌*◌, ◌/◌, ◌≤◌, min, List, length, vec_items}
-use Rattle.memory.specs.ByteLaws.{byte_laws}
+use Rattle.memory.specs.ByteLaws.{byte_facts}
 use Rattle.memory.specs.ByteOrder.{words_of}
 use Rattle.memory.specs.Items.{list_laws}
+use Rattle.memory.specs.ItemLaws.{shows}
 use Rattle.memory.specs.Memories.{frames_in, shown, Lawful}
-use Rattle.memory.specs.WordLaws.{word_laws}
+use Rattle.memory.specs.WordLaws.{word_facts}
 use Rattle.script.specs.declared.commands.ListKind.{ListKind}
 use Rattle.script.specs.declared.commands.ListKind.TheVariants as kind
 use Rattle.script.specs.declared.supplied.Supplied.{Supplied}
@@ -33,9 +34,9 @@ pub supplied_laws : Lawful supplied_words supplied_size
 supplied_laws = record { whole = whole; few = few }
   where
     whole : (s : Supplied) → length (supplied_words s) ≡ 512 * supplied_size s
-    whole (Words list) = word_laws.whole (vec_items list)
-    whole (Bytes list) = byte_laws.whole (vec_items list)
+    whole (Words list) = word_facts.whole (vec_items list)
+    whole (Bytes list) = byte_facts.whole (vec_items list)
 
     few : (s : Supplied) → supplied_size s ≤ 256
-    few (Words list) = (list_laws word_laws (λ (l : List ℕ). l)).few (vec_items list)
-    few (Bytes list) = (list_laws byte_laws (λ (l : List ℕ). l)).few (vec_items list)
+    few (Words list) = (list_laws (shows word_facts) (λ (l : List ℕ). l)).few (vec_items list)
+    few (Bytes list) = (list_laws (shows byte_facts) (λ (l : List ℕ). l)).few (vec_items list)

@@ -16,14 +16,14 @@ fn is_blank(byte: u8) -> bool
 }
 
 // The line less one byte `end`, where it ends with it.
-fn without<'a>(line: &'a [u8], end: u8) -> &'a [u8]
+fn without(line: &[u8], end: u8) -> &[u8]
     ensures { result.now ≡ chopped end line.now }
 {
     line.strip_suffix(&[end]).unwrap_or(line)
 }
 
 // The line without its line feed, and without a carriage return before that.
-pub fn line_text<'a>(line: &'a [u8]) -> &'a [u8]
+pub fn line_text(line: &[u8]) -> &[u8]
     ensures { result.now ≡ line_text line.now }
 {
     without(without(line, b'\n'), b'\r')
@@ -38,7 +38,7 @@ fn code_length(line: &[u8]) -> usize
 }
 
 // What stands before the line's comment.
-pub fn command_part<'a>(line: &'a [u8]) -> &'a [u8]
+pub fn command_part(line: &[u8]) -> &[u8]
     ensures { result.now ≡ command_part line.now }
 {
     &line[..code_length(line)]
@@ -68,7 +68,7 @@ fn blanks_at_end(text: &[u8]) -> usize
         .count()
 }
 
-fn without_indent<'a>(text: &'a [u8]) -> &'a [u8]
+fn without_indent(text: &[u8]) -> &[u8]
     ensures { result.now ≡ unindented text.now }
 {
     let (_, rest) = text.split_at(blanks_at_front(text));
@@ -117,7 +117,7 @@ impl<'a> Iterator for Words<'a> {
     }
 }
 
-fn nth_word<'a>(text: &'a [u8], place: usize) -> Option<&'a [u8]>
+fn nth_word(text: &[u8], place: usize) -> Option<&[u8]>
     ensures { option_copied result ≡ slice_get (words_of text.now) place }
 {
     Words::new(text).nth(place)
@@ -125,7 +125,7 @@ fn nth_word<'a>(text: &'a [u8], place: usize) -> Option<&'a [u8]>
 
 // The word at a place of the text, counted from 0; empty where the text has fewer words.
 #[tactic(auto, using(crate::proofs::Finding::word_found))]
-pub fn word<'a>(text: &'a [u8], place: usize) -> &'a [u8]
+pub fn word(text: &[u8], place: usize) -> &[u8]
     ensures { result.now ≡ word_at text.now place }
 {
     nth_word(text, place).unwrap_or(b"")
@@ -139,7 +139,7 @@ pub fn is_word(text: &[u8], place: usize, name: &[u8]) -> bool
 }
 
 // The text without the blanks at its two ends.
-fn trimmed<'a>(text: &'a [u8]) -> &'a [u8]
+fn trimmed(text: &[u8]) -> &[u8]
     ensures { result.now ≡ trimmed text.now }
 {
     let rest = without_indent(text);
@@ -147,15 +147,13 @@ fn trimmed<'a>(text: &'a [u8]) -> &'a [u8]
 }
 
 // The line as it is shown: without its line end, and without the blanks at its two ends.
-pub fn shown_text<'a>(line: &'a [u8]) -> &'a [u8]
+pub fn shown_text(line: &[u8]) -> &[u8]
     ensures { result.now ≡ shown_text line.now }
 {
     trimmed(line_text(line))
 }
 
 // Every text is words set apart by blanks, and `word` finds each of them at its place.
-pub fn words_are_found() -> u8
+pub fn words_are_found()
     ensures { WordsFound }
-{
-    0
-}
+{}

@@ -79,8 +79,6 @@ pub fn put_bytes(out: &mut Vec<u8>, bytes: &[u8]) -> Result<(), AllocError>
 }
 
 // Numbers and bytes are read back, by the rules of `numbers`, as what they were when they were printed.
-pub fn printed_reads_back() -> u8
+pub fn printed_reads_back()
     ensures { ReadsBack }
-{
-    0
-}
+{}
