@@ -1,6 +1,6 @@
 // Kinds: each governs a single region, and is a policy.
 
-ghost use Rattle.std.specs.Prelude.{◌≡◌, ℕ, Bool, true};
+ghost use Rattle.std.specs.Prelude.{◌≡◌, ℕ, Bool, IsTrue};
 ghost use Rattle.policy.specs.Kinds.{IsKind, kind_after, kind_means, kind_opens, left_open, one_region};
 ghost use Rattle.policy.specs.Laws.{kind_laws};
 ghost use Rattle.policy.specs.Policies.{permitted};
@@ -25,7 +25,7 @@ pub(crate) trait Kind {
 
     // Closes what a write closes, where it was permitted.
     fn close(&mut self, span: Span)
-        requires { permitted (openness self.old) span.offset span.length ≡ true }
+        requires { IsTrue (permitted (openness self.old) span.offset span.length) }
         ensures { self.new ≡ close self.old span.offset span.length };
 
     // What holds of all of these.

@@ -1,6 +1,6 @@
 // Runs of code: of bytes, or of words, which hold eight bytes each.
 
-ghost use Rattle.std.specs.Prelude.{◌≡◌, ℕ, List, [], ◌∷◌, Decides, is_ok};
+ghost use Rattle.std.specs.Prelude.{◌≡◌, ◌↔◌, ℕ, List, [], ◌∷◌, IsTrue, is_ok};
 ghost use Rattle.memory.specs.ByteOrder.{bytes_of};
 ghost use Rattle.scanner.specs.CodeLaws.{byte_laws, word_laws};
 ghost use Rattle.scanner.specs.Codes.{IsCode};
@@ -72,7 +72,7 @@ impl Scanner {
 // Whether a run of code passes.
 pub fn passes<T: Code>(run: &[T]) -> bool
     ensures value { result ≡ passing (T.run run.now) }
-    ensures means { Decides result (Clean (T.run run.now)) }
+    ensures means { IsTrue result ↔ Clean (T.run run.now) }
 {
     let mut scanner = Scanner::new();
     scanner.feed_run(run).is_ok() && scanner.may_end()

@@ -1,5 +1,5 @@
 // The commands of a script, and how a line is read into one.
-ghost use Rattle.std.specs.Prelude.{◌≡◌, ◌==◌, true, false, length, codes, Some};
+ghost use Rattle.std.specs.Prelude.{◌≡◌, ◌==◌, false, length, codes, IsTrue, Some};
 ghost use Rattle.std.specs.Option.{ok_or, option_map};
 ghost use Rattle.std.specs.Str.{bytes_eq};
 ghost use Rattle.script.specs.Commands.{said, echo, kind_of, kind_name, most, memory_of, word_of, scan_of, spelled, reading, scans};
@@ -154,7 +154,7 @@ fn scan_command(heap: Global, words: &mut Words<'_>) -> Result<Command, Unread>
 
 // The command of that name, with the words behind it.
 fn named(heap: Global, name: &[u8], words: &mut Words<'_>) -> Result<Command, Unread>
-    ensures wants { wants_memory result ≡ true → bytes_eq name.now (codes "scan") ≡ true }
+    ensures wants { IsTrue (wants_memory result) → IsTrue (bytes_eq name.now (codes "scan")) }
     ensures gives { Gives said result (spelled name.now words.old) }
 {
     if name == MEMORY {
@@ -172,7 +172,7 @@ fn named(heap: Global, name: &[u8], words: &mut Words<'_>) -> Result<Command, Un
 // Reads a line, with or without its line end. A line that holds no word before its comment asks for nothing.
 #[tactic(auto, unfolding(text::specs::Lines::after_words))]
 pub fn read(heap: Global, line: &[u8]) -> Result<Option<Command>, Unread>
-    ensures wants { wants_memory result ≡ true → scans line.now ≡ true }
+    ensures wants { IsTrue (wants_memory result) → IsTrue (scans line.now) }
     ensures gives { Gives (option_map said) result (reading line.now) }
 {
     let mut words = Words::new(command_part(line_text(line)));

@@ -1,5 +1,5 @@
 // Numbers as scripts write them: digits alone, read at full width or not at all.
-ghost use Rattle.std.specs.Prelude.{◌≡◌, ◌+◌, ◌*◌, ◌%◌, ◌^◌, ◌<◌, ◌≤◌, true, length, vec_items};
+ghost use Rattle.std.specs.Prelude.{◌≡◌, ◌+◌, ◌*◌, ◌%◌, ◌^◌, ◌<◌, ◌≤◌, IsTrue, length, vec_items};
 ghost use Rattle.std.specs.Option.{SomeIff};
 ghost use Rattle.std.specs.Str.Parse.{digits_value};
 ghost use Rattle.text.specs.Numbers.{base, digit_of, reads_on, number_of, Number, pair_of, pairs_of, bytes_of};
@@ -95,7 +95,7 @@ fn byte(high: u8, low: u8) -> Option<u8>
 // The bytes that digits write, two to a byte.
 #[tactic(auto, using(crate::proofs::Pairing::odd_none, crate::proofs::Pairing::all_pairs))]
 fn pairs(heap: Global, digits: &[u8]) -> Result<Vec<u8>, Unread>
-    ensures wants { wants_memory result ≡ true → length digits.now % 2 ≡ 0 }
+    ensures wants { IsTrue (wants_memory result) → length digits.now % 2 ≡ 0 }
     ensures gives { Gives vec_items result (pairs_of digits.now) }
 {
     let (pairs, []) = digits.as_chunks::<2>() else {
@@ -110,7 +110,7 @@ fn pairs(heap: Global, digits: &[u8]) -> Result<Vec<u8>, Unread>
 
 // The bytes that a word writes, the one at the lowest address first. `-` writes none.
 pub fn bytes(heap: Global, word: &[u8]) -> Result<Vec<u8>, Unread>
-    ensures wants { wants_memory result ≡ true → (0 < length word.now) × (length word.now % 2 ≡ 0) }
+    ensures wants { IsTrue (wants_memory result) → (0 < length word.now) × (length word.now % 2 ≡ 0) }
     ensures gives { Gives vec_items result (bytes_of word.now) }
 {
     match word {
