@@ -1,5 +1,6 @@
 // A script line and its words. Lines are bytes: a script need not be valid text.
-ghost use Rattle.std.specs.Prelude.{◌≡◌, slice_get, ◌==◌, ℕ, ◌<◌, ◌≤◌, List, [], length, MatchOption, ⊤};
+ghost use Rattle.std.specs.Prelude.{◌≡◌, slice_get, ◌==◌, ℕ, Bool, ◌<◌, ◌≤◌, List, [], length, MatchOption, ⊤};
+ghost use Rattle.std.specs.Fn.{CalledAt};
 ghost use Rattle.std.specs.Iterator.{YieldsFirstBy, item_count, MakesProgress};
 ghost use Rattle.std.specs.List.{prefix_len, position_or_len, suffix_len};
 ghost use Rattle.std.specs.Option.{option_copied};
@@ -29,33 +30,20 @@ pub fn line_text(line: &[u8]) -> &[u8]
     without(without(line, b'\n'), b'\r')
 }
 
-// Where the line's comment begins, or the line ends.
-fn code_length(line: &[u8]) -> usize
-    ensures value { result ≡ position_or_len (λ b. b == 35) line.now }
-    ensures bound { result ≤ length line.now }
-{
-    line.iter().take_while(|byte| **byte != b'#').count()
-}
-
 // What stands before the line's comment.
 pub fn command_part(line: &[u8]) -> &[u8]
     ensures { result.now ≡ command_part line.now }
 {
-    &line[..code_length(line)]
+    &line[..run_length(line, |byte| **byte != b'#')]
 }
 
-fn blanks_at_front(text: &[u8]) -> usize
-    ensures value { result ≡ prefix_len blank text.now }
+// How many bytes at the front of the text belong to a run, where the closure answers as some test `p` does.
+fn run_length<F: FnMut(&&u8) -> bool + Drop>(text: &[u8], belongs: F) -> usize
+    requires { (f : _) (x : _) → F.pre f x }
+    ensures value { (p : ℕ → Bool) → ((x : _) (b : Bool) (q : F) → CalledAt F.FnMut belongs x b q → (q ≡ belongs) × (b ≡ p x.now)) → result ≡ prefix_len p text.now }
     ensures bound { result ≤ length text.now }
 {
-    text.iter().take_while(|byte| is_blank(**byte)).count()
-}
-
-fn letters_at_front(text: &[u8]) -> usize
-    ensures value { result ≡ position_or_len blank text.now }
-    ensures bound { result ≤ length text.now }
-{
-    text.iter().take_while(|byte| !is_blank(**byte)).count()
+    text.iter().take_while(belongs).count()
 }
 
 fn blanks_at_end(text: &[u8]) -> usize
@@ -71,7 +59,7 @@ fn blanks_at_end(text: &[u8]) -> usize
 fn without_indent(text: &[u8]) -> &[u8]
     ensures { result.now ≡ unindented text.now }
 {
-    let (_, rest) = text.split_at(blanks_at_front(text));
+    let (_, rest) = text.split_at(run_length(text, |byte| is_blank(**byte)));
     rest
 }
 
@@ -111,7 +99,7 @@ impl<'a> Iterator for Words<'a> {
         ensures goes { MakesProgress (λ _. ⊤) (item_count words_of) self.old result self.new }
     {
         let rest = without_indent(self.left);
-        let (word, left) = rest.split_at(letters_at_front(rest));
+        let (word, left) = rest.split_at(run_length(rest, |byte| !is_blank(**byte)));
         self.left = left;
         (!word.is_empty()).then_some(word)
     }
