@@ -8,7 +8,8 @@ use crate::items::Item;
 use crate::list;
 use crate::traits::Memory;
 
-// The memory that the whole frames of a lent list make.
+// The memory that the whole frames of a lent list make. Clauses name its field: a model would show the list, but not
+// the loan, by which a lender learns what was written.
 #[derive(Drop)]
 pub struct Lent<'a, T, const N: usize> {
     list: &'a mut [T],

@@ -29,7 +29,8 @@ pub trait Memory {
     fn read(&self, index: u64) -> Option<u64>
         ensures { result ≡ word_at (words self.now) index };
 
-    // Replaces the word at the index and says yes, or says no where there is none.
+    // Replaces the word at the index and says yes, or says no where there is none: a plain bool, as a set's `insert`
+    // answers, for no value stands beside it.
     fn write(&mut self, index: u64, value: u64) -> bool
         ensures same { size self.new ≡ size self.old }
         ensures done { result ≡ nat_lt index (length (words self.old)) }

@@ -19,7 +19,8 @@ pub trait Policy {
         ensures is { result ≡ means.count self.now }
         ensures few { result ≤ 16 };
 
-    // Whether every offset of the span is open.
+    // Whether every offset of the span is open. Region and span stay two parameters here and in `told`: a pair asks its
+    // parts by another number, and would have to take a `Write` apart and make a new one.
     fn permits(&self, region: u64, span: Span) -> bool
         ensures { result ≡ permitted (means.opens self.now region) span.offset span.length };
 

@@ -152,7 +152,8 @@ fn scan_command(heap: Global, words: &mut Words<'_>) -> Result<Command, Unread>
     Err(Unread::Unreadable)
 }
 
-// The command of that name, with the words behind it.
+// The command of that name, with the words behind it. The names are compared one by one: of a `match` on them the way
+// through a name of six bytes is not proved.
 fn named(heap: Global, name: &[u8], words: &mut Words<'_>) -> Result<Command, Unread>
     ensures wants { IsTrue (wants_memory result) → IsTrue (bytes_eq name.now (codes "scan")) }
     ensures gives { Gives said result (spelled name.now words.old) }

@@ -37,6 +37,7 @@ impl Supplied {
     }
 }
 
+// One call for each kind of list, and the same one: a box of either would have to be made and handed out.
 impl Memory for Supplied {
     ghost words = { supplied_words };
 

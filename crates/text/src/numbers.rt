@@ -67,7 +67,8 @@ impl Radix {
     }
 }
 
-// The number that a word of decimal digits writes, or nothing: never a number cut down to 64 bits.
+// The number that a word of decimal digits writes, or nothing: never a number cut down to 64 bits. This one and the next
+// are names for one method: a caller says `decimal(word)`, and needs to know of no radix.
 pub fn decimal(word: &[u8]) -> Option<u64>
     ensures value { result ≡ number_of 10 word.now }
     ensures means { SomeIff result (Number 10 word.now) (digits_value 10 word.now) }
