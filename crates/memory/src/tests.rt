@@ -48,16 +48,17 @@ fn no_frame<T: Item<N> + PartialEq, const N: usize>(rt: &impl Abort, list: &mut 
     assert!(rt; &*list == same);
 }
 
-// The list shows so many frames, and no word behind them.
+// The list shows so many frames, with words up to `last`, and none from `past` on.
 fn some_frames<T: Item<N>, const N: usize>(
     rt: &impl Abort,
     list: &mut [T],
     frames: u64,
+    last: u64,
     past: u64,
 ) {
     let mut memory = Lent::new(list);
     assert_eq!(rt; memory.frames(), frames);
-    ends(rt, &mut memory, past.saturating_sub(1), past);
+    ends(rt, &mut memory, last, past);
 }
 
 #[test]
@@ -78,25 +79,19 @@ fn no_frame_of_bytes(rt: HostRuntime) -> Result<(), Fail> {
 
 #[test]
 fn one_frame(rt: HostRuntime) -> Result<(), Fail> {
-    some_frames(&rt, vec![in rt.alloc(); 0u64; 513]?.as_mut_slice(), 1, 512);
-    some_frames(&rt, vec![in rt.alloc(); 0u8; 4104]?.as_mut_slice(), 1, 512);
+    let mut words = vec![in rt.alloc(); 0u64; 513]?;
+    some_frames(&rt, words.as_mut_slice(), 1, 511, 512);
+    let mut bytes = vec![in rt.alloc(); 0u8; 4104]?;
+    some_frames(&rt, bytes.as_mut_slice(), 1, 511, 512);
     Ok(())
 }
 
 #[test]
 fn too_many_frames(rt: HostRuntime) -> Result<(), Fail> {
-    some_frames(
-        &rt,
-        vec![in rt.alloc(); 0u64; 257 * 512]?.as_mut_slice(),
-        256,
-        131072,
-    );
-    some_frames(
-        &rt,
-        vec![in rt.alloc(); 0u8; 257 * 4096]?.as_mut_slice(),
-        256,
-        131072,
-    );
+    let mut words = vec![in rt.alloc(); 0u64; 257 * 512]?;
+    some_frames(&rt, words.as_mut_slice(), 256, 131071, 131072);
+    let mut bytes = vec![in rt.alloc(); 0u8; 257 * 4096]?;
+    some_frames(&rt, bytes.as_mut_slice(), 256, 131071, 131072);
     Ok(())
 }
 
