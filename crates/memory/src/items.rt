@@ -25,9 +25,6 @@ pub trait Item<const N: usize>: Copy {
     // A list with a word put into it.
     ghost put: { List Self → ℕ → ℕ → List Self };
 
-    // What holds of all of these.
-    ghost laws: { Shows N word_in items_of nought words put };
-
     // The word that the items make.
     fn word(items: [Self; N]) -> u64
         ensures { result ≡ word_in items };
@@ -39,6 +36,9 @@ pub trait Item<const N: usize>: Copy {
     // The item that is nought.
     fn zero() -> Self
         ensures { result ≡ nought };
+
+    // What holds of all of these.
+    ghost laws: { Shows N word_in items_of nought words put };
 
     // A clone of an item is that item.
     ghost clones: { (item clone : Self) → Self.Clone.is_clone item clone → clone ≡ item };

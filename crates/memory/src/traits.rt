@@ -17,8 +17,6 @@ pub trait Memory {
     // Its count of frames.
     ghost size: { Self → ℕ };
 
-    ghost laws: { Lawful words size };
-
     // How many frames there are.
     fn frames(&self) -> u64
         ensures is { result ≡ size self.now }
@@ -35,4 +33,7 @@ pub trait Memory {
         ensures same { size self.new ≡ size self.old }
         ensures done { result ≡ nat_lt index (length (words self.old)) }
         ensures after { words self.new ≡ slice_set (words self.old) index value };
+
+    // What holds of all of these.
+    ghost laws: { Lawful words size };
 }

@@ -17,12 +17,12 @@ pub trait Code: Copy {
     // The bytes of a list of items.
     ghost run: { List Self → List ℕ };
 
-    // What holds of both.
-    ghost laws: { IsCode bytes run };
-
     // Gives the item's bytes to the scanner, up to the first that completes a forbidden sequence.
     fn feed_to(self, scanner: &mut Scanner) -> Result<(), Forbidden>
         ensures { Fed scanner.old (bytes self) (is_ok result) scanner.new };
+
+    // What holds of both.
+    ghost laws: { IsCode bytes run };
 }
 
 impl Code for u8 {

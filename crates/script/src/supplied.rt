@@ -25,7 +25,8 @@ fn zeros<T: Item<N>, const N: usize>(heap: Global, size: u64) -> Result<Vec<T>, 
 }
 
 impl Supplied {
-    // A list of zeros.
+    // A list of zeros. Kind and size are the fields of the command that asks for it, and a struct of the two would only be
+    // taken apart again.
     pub fn zeros(heap: Global, kind: ListKind, size: u64) -> Result<Supplied, AllocError>
         ensures words { IfOk result (λ s. supplied_words s ≡ replicate (512 * frames_for kind size) 0) }
         ensures frames { IfOk result (λ s. supplied_size s ≡ frames_for kind size) }

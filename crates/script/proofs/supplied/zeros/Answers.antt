@@ -6,5 +6,5 @@ use Rattle.std.proofs.lemmas.Result.{IfOk-weaker}
 
 pub returns-clause-words : goal.returns-clause-words
 returns-clause-words g c = IfOk-weaker c.vec.result _ _
-    (λ v same. zeros_shown g.T.Item.laws c.args.size v.items (same (λ y clone. g.met.T.Item.clones _ y clone) ∙ ap (replicate c.args.size) c.zero.ensures))
+    (λ v same. zeros_shown g.met.T.Item.laws c.args.size v.items (same (λ y clone. g.met.T.Item.clones _ y clone) ∙ ap (replicate c.args.size) c.zero.ensures))
     c.vec.ensures.items_if_clones_equal
