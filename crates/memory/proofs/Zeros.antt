@@ -13,15 +13,15 @@ module _ {Item : Type 0} {n : ℕ} {word : List Item → ℕ} {items : ℕ → L
       let long : length (replicate k nought) ≡ k = length-replicate k nought in
       let room : n * i + n ≤ k = omega (arith, shows.room (replicate k nought) i inside) in
       let left : n ≤ k - n * i = omega arith in
-      shows.made (replicate k nought) i inside
+      shows.item.made (replicate k nought) i inside
       ∙ ap (λ l. word (take n l)) (drop-replicate (n * i) k nought)
       ∙ ap word (take-replicate n (k - n * i) nought left)
-      ∙ shows.zeros
+      ∙ shows.item.zeros
 
   pub zeros_shown : (list : List Item) → list ≡ replicate k nought → words list ≡ replicate (512 * min (k / (512 * n)) 256) 0
   zeros_shown list is =
       let frames : frames_in (512 * n) (replicate k nought) ≡ min (k / (512 * n)) 256 = ap (λ m. min (m / (512 * n)) 256) (length-replicate k nought) in
-      let long : length (words (replicate k nought)) ≡ 512 * frames_in (512 * n) (replicate k nought) = shows.whole (replicate k nought) in
+      let long : length (words (replicate k nought)) ≡ 512 * frames_in (512 * n) (replicate k nought) = shows.item.whole (replicate k nought) in
       ap words is
       ∙ same_number_lists (words (replicate k nought)) (replicate (512 * min (k / (512 * n)) 256) 0)
       (long ∙ ap (λ m. 512 * m) frames ∙ sym (length-replicate (512 * min (k / (512 * n)) 256) 0))

@@ -3,7 +3,7 @@ use Rattle.std.specs.Prelude.{◌≡◌, ℕ, ◌+◌, ◌*◌, ◌^◌, ◌<◌
 use Rattle.std.proofs.Common.{get_or, sym, ap, ◌∙◌, arith, lit<}
 use Rattle.std.proofs.lemmas.List.FromFn.{get_or-map-range_with_len, length-map-range_with_len}
 use Rattle.std.proofs.lemmas.List.{get_or-drop, get_or-take}
-use Rattle.memory.specs.ByteOrder.{byte_at, word_of, words_of, bytes_of, put_word}
+use Rattle.memory.specs.ByteOrder.{byte_at, first, word_of, words_of, bytes_of, put_word}
 use Rattle.memory.specs.Items.{IsItem, part}
 use Rattle.memory.specs.Memories.{frames_in}
 
@@ -38,10 +38,6 @@ same_word list other i k same =
 bytes_back : (v : ℕ) → v < 2 ^ 64 → word_of (bytes_of v) 0 ≡ v
 unfolding word_of
 bytes_back v fits = omega arith
-
--- The word that the bytes make which lie in its place.
-abbrev pub first : List ℕ → ℕ
-first items = word_of items 0
 
 -- Bytes that are taken out of a list make the word that they made in it.
 word_there : (list : List ℕ) (i : ℕ) → first (part 8 list i) ≡ word_of list i

@@ -92,4 +92,4 @@ module _ {Item : Type 0} {n : ℕ} {word : List Item → ℕ} {items : ℕ → L
 
   -- So every kind of item shows a memory.
   pub shows : Shows n word items nought words put
-  shows = record { some = item.some; few = item.few; zeros = item.zeros; whole = item.whole; room = room; made = item.made; lays = item.lays; after = after; rest = rest; same = same }
+  shows = record { item = item; room = room; after = after; rest = rest; same = same }

@@ -1,6 +1,7 @@
 -- The items that a list of a memory is made of: whole words, or the bytes of words.
 --
 --   part        the items of one word of a list
+--   sole        the word that a single item makes
 --   laid        a list with other items in the place of one word's
 --   IsItem      what makes a kind of item
 --   Shows       what follows of every kind of item
@@ -12,6 +13,10 @@ use Rattle.memory.specs.Memories.{behind, frames_in, Lawful}
 -- The items of word i, where each word is n of them.
 abbrev pub part : {Item : Type 0} → ℕ → List Item → ℕ → List Item
 part n list i = take n (drop (n * i) list)
+
+-- The word that a single item makes, a whole word.
+abbrev pub sole : List ℕ → ℕ
+sole items = slice_index items 0
 
 -- A list with the given items in the place of those of word i, and all else as it was.
 abbrev pub laid : {Item : Type 0} → ℕ → List Item → ℕ → List Item → List Item
@@ -34,14 +39,9 @@ pub record IsItem {Item : Type 0} (n : ℕ) (word : List Item → ℕ) (items : 
 
 -- What follows of every kind of item, and is all that a memory needs to know of its items.
 pub record Shows {Item : Type 0} (n : ℕ) (word : List Item → ℕ) (items : ℕ → List Item) (nought : Item) (words : List Item → List ℕ) (put : List Item → ℕ → ℕ → List Item) : Type 0 where
-  pub some : 1 ≤ n
-  pub few : n ≤ 8
-  pub zeros : word (replicate n nought) ≡ 0
-  pub whole : (list : List Item) → length (words list) ≡ 512 * frames_in (512 * n) list
+  pub item : IsItem n word items nought words put
   -- The items of each word that is shown lie in the list,
   pub room : (list : List Item) (i : ℕ) → i < 512 * frames_in (512 * n) list → n * i + n ≤ length list
-  pub made : (list : List Item) (i : ℕ) → i < 512 * frames_in (512 * n) list → slice_index (words list) i ≡ word (part n list i)
-  pub lays : (list : List Item) (i w : ℕ) → i < 512 * frames_in (512 * n) list → put list i w ≡ laid n list i (items w)
   -- a word that is put is the one shown there, and no other is altered,
   pub after : (list : List Item) (i w : ℕ) → i < 512 * frames_in (512 * n) list → w < 2 ^ 64 → words (put list i w) ≡ slice_set (words list) i w
   -- nor what lies behind the frames, nor how many there are.
@@ -51,6 +51,6 @@ pub record Shows {Item : Type 0} (n : ℕ) (word : List Item → ℕ) (items : �
 -- Whatever holds a list of items is a memory by the words of that list.
 pub list_laws : {Item Self : Type 0} {n : ℕ} {word : List Item → ℕ} {items : ℕ → List Item} {nought : Item} {words : List Item → List ℕ} {put : List Item → ℕ → ℕ → List Item} → Shows n word items nought words put → (list : Self → List Item) → Lawful (λ m. words (list m)) (λ m. frames_in (512 * n) (list m))
 list_laws shows list = record {
-  whole = λ m. shows.whole (list m);
+  whole = λ m. shows.item.whole (list m);
   few = λ m. omega arith;
 }

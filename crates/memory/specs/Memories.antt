@@ -5,9 +5,8 @@
 --   behind       what lies behind those frames
 --   word_at      a word by its index, or nothing
 --   written      a list after a write
---   write_word   a list of words after a write
 --   Lawful       what holds of every memory
-use Rattle.std.specs.Prelude.{◌≡◌, ℕ, ◌*◌, ◌/◌, ◌≤◌, min, cond, List, length, take, drop, Some, None, Option, nat_lt, slice_index, slice_set}
+use Rattle.std.specs.Prelude.{◌≡◌, ℕ, ◌*◌, ◌/◌, ◌≤◌, min, cond, List, length, take, drop, Some, None, Option, nat_lt, slice_index}
 
 -- How many frames of `size` items lie whole in a list: no more than 256 are shown.
 abbrev pub frames_in : {Item : Type 0} → ℕ → List Item → ℕ
@@ -28,10 +27,6 @@ word_at list index = cond (nat_lt index (length list)) (Some (slice_index list i
 -- A list with `n` items to a word after a write of one word, which `put` puts into it: only a word that is shown is replaced.
 abbrev pub written : {Item : Type 0} → ℕ → (List Item → ℕ → ℕ → List Item) → List Item → ℕ → ℕ → List Item
 written n put list index value = cond (nat_lt index (512 * frames_in (512 * n) list)) (put list index value) list
-
--- A list of words after a write of one word.
-abbrev pub write_word : List ℕ → ℕ → ℕ → List ℕ
-write_word = written 1 slice_set
 
 -- Every memory has 512 words for each of its frames, and at most 256 frames.
 pub record Lawful {Self : Type 0} (words : Self → List ℕ) (size : Self → ℕ) : Type 0 where

@@ -2,12 +2,8 @@
 use Rattle.std.specs.Prelude.{◌≡◌, ℕ, suc, ◌+◌, ◌*◌, List, [], ◌∷◌, ◌++◌, take, drop, slice_index, slice_set, refl}
 use Rattle.std.proofs.Common.{sym, ap, ◌∙◌, arith}
 use Rattle.std.proofs.lemmas.List.{get_or-drop, get_or-take, length-take-le, set_split}
-use Rattle.memory.specs.Items.{IsItem, part}
+use Rattle.memory.specs.Items.{IsItem, part, sole}
 use Rattle.memory.specs.Memories.{frames_in, shown}
-
--- The word that one item makes is that item.
-abbrev pub sole : List ℕ → ℕ
-sole items = slice_index items 0
 
 -- One item of a list, by its place.
 one : (list : List ℕ) (i : ℕ) → sole (part 1 list i) ≡ slice_index list i

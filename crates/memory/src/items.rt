@@ -1,14 +1,15 @@
 // What a memory's list is made of: words, or the bytes of words.
 
 ghost use Rattle.std.specs.Prelude.{◌≡◌, ℕ, List, [], ◌∷◌, slice_set};
-ghost use Rattle.memory.specs.ByteLaws.{first, byte_facts};
-ghost use Rattle.memory.specs.ByteOrder.{words_of, bytes_of, put_word, ByteOrder};
+ghost use Rattle.memory.specs.ByteLaws.{byte_facts};
+ghost use Rattle.memory.specs.ByteOrder.{first, words_of, bytes_of, put_word, ByteOrder};
 ghost use Rattle.memory.specs.ItemLaws.{shows};
-ghost use Rattle.memory.specs.Items.{Shows};
+ghost use Rattle.memory.specs.Items.{sole, Shows};
 ghost use Rattle.memory.specs.Memories.{shown};
-ghost use Rattle.memory.specs.WordLaws.{sole, word_facts};
+ghost use Rattle.memory.specs.WordLaws.{word_facts};
 
-// An item of a list, where each word is N of them.
+// An item of a list, where each word is N of them. Its ghost members stay single: clauses name `words` and `put` alone,
+// and only the two records of facts take all of them together.
 pub trait Item<const N: usize>: Copy {
     // The word that so many items make.
     ghost word_in: { List Self → ℕ };

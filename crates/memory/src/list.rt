@@ -29,13 +29,12 @@ fn get<T: Item<N>, const N: usize>(list: &[T], index: u64) -> u64
     requires { index < 512 * frames_in (512 * N) list.now }
     ensures { result ≡ slice_index (T.words list.now) index }
 {
-    let at = N * index as usize;
-    let mut items = T::items(0);
-    items.copy_from_slice(&list[at..at + N]);
-    T::word(items)
+    let (words, _) = list.as_chunks::<N>();
+    T::word(words[index as usize])
 }
 
-// Replaces a word that the list shows.
+// Replaces a word that the list shows. Its items are found by their place: `as_chunks_mut` promises nothing of what the
+// list ends as.
 fn put<T: Item<N>, const N: usize>(list: &mut [T], index: u64, value: u64)
     requires { index < 512 * frames_in (512 * N) list.old }
     ensures list { list.new ≡ T.put list.old index value }
@@ -47,7 +46,8 @@ fn put<T: Item<N>, const N: usize>(list: &mut [T], index: u64, value: u64)
     list[at..at + N].copy_from_slice(&T::items(value));
 }
 
-// The word at the index, or nothing where the list shows none.
+// The word at the index, or nothing where the list shows none. Of `then` with a closure in place of the `if` the proof
+// does not close.
 pub fn read<T: Item<N>, const N: usize>(list: &[T], index: u64) -> Option<u64>
     ensures { result ≡ word_at (T.words list.now) index }
 {
@@ -58,7 +58,7 @@ pub fn read<T: Item<N>, const N: usize>(list: &[T], index: u64) -> Option<u64>
     }
 }
 
-// Replaces the word at the index and says yes, or says no where the list shows none.
+// Replaces the word at the index and says yes, or says no where the list shows none: a bool, as in the trait `Memory`.
 pub fn write<T: Item<N>, const N: usize>(list: &mut [T], index: u64, value: u64) -> bool
     ensures list { list.new ≡ written N T.put list.old index value }
     ensures rest { behind (512 * N) list.new ≡ behind (512 * N) list.old }

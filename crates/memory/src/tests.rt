@@ -1,29 +1,19 @@
 // Memories on examples: no frame, one frame, more frames than are shown, and the order of bytes.
 
 ghost use Rattle.std.specs.Prelude.{◌≡◌};
-ghost use Rattle.memory.specs.ByteOrder.{write_bytes};
-ghost use Rattle.memory.specs.Memories.{write_word};
+ghost use Rattle.memory.specs.Memories.{written};
 
 use crate::items::Item;
-use crate::kinds::{Bytes, Lent, Words};
+use crate::kinds::{Bytes, Lent};
 use crate::traits::Memory;
 use std::process::Abort;
 use std::test::Fail;
 
-// A lender of a list knows what was written into it,
-fn write_two(list: &mut [u64])
-    ensures { list.new ≡ write_word (write_word list.old 0 5) 1 6 }
+// A lender of a list knows what was written into it.
+fn write_two<T: Item<N>, const N: usize>(list: &mut [T])
+    ensures { list.new ≡ written N T.put (written N T.put list.old 0 5) 1 6 }
 {
-    let mut memory = Words::new(list);
-    let _ = memory.write(0, 5);
-    let _ = memory.write(1, 6);
-}
-
-// of a list of bytes as well.
-fn write_two_of_bytes(list: &mut [u8])
-    ensures { list.new ≡ write_bytes (write_bytes list.old 0 5) 1 6 }
-{
-    let mut memory = Bytes::new(list);
+    let mut memory = Lent::new(list);
     let _ = memory.write(0, 5);
     let _ = memory.write(1, 6);
 }
@@ -110,13 +100,13 @@ fn low_byte_first(rt: HostRuntime) -> Result<(), Fail> {
 
 #[test]
 fn lent_list(rt: HostRuntime) -> Result<(), Fail> {
-    let mut list = vec![in rt.alloc(); 0; 512]?;
+    let mut list = vec![in rt.alloc(); 0u64; 512]?;
     write_two(list.as_mut_slice());
     let slice = list.as_slice();
     assert!(rt; slice.len() == 512);
     assert!(rt; slice[0] == 5 && slice[1] == 6);
-    let mut list = vec![in rt.alloc(); 0; 4096]?;
-    write_two_of_bytes(list.as_mut_slice());
+    let mut list = vec![in rt.alloc(); 0u8; 4096]?;
+    write_two(list.as_mut_slice());
     let slice = list.as_slice();
     assert!(rt; slice.len() == 4096);
     assert!(rt; slice[0] == 5 && slice[8] == 6);

@@ -12,7 +12,7 @@ pub struct Write {
     pub span: Span,
 }
 
-// Tells the policy of each write.
+// Tells the policy of each write: the loop of `tell_all`, apart so that a bug there is found in its code.
 fn tell_each<P: Policy>(policy: &mut P, writes: &[Write])
     ensures { History P.means policy.old writes.now policy.new }
 {

@@ -27,7 +27,7 @@ impl Span {
         Some(Span { offset, length })
     }
 
-    // Its first offset.
+    // Its first offset. This call and the next are for those who would rather not name a field.
     pub fn offset(self) -> u64
         ensures { result ≡ self.offset }
     {

@@ -1,12 +1,16 @@
 -- The scanner's states: what each stands for, and how bytes change it.
--- Names: `seen`, `forbids`, `next`, `step`, `Stands`, `feed_all`, `Fed`.
-use Rattle.std.specs.Prelude.{◌≡◌, ℕ, Bool, true, false, cond, ◌&&◌, List, [], ◌∷◌, ◌++◌, Decides}
+-- Names: `forbidden`, `seen`, `forbids`, `next`, `step`, `Stands`, `feed_all`, `Fed`.
+use Rattle.std.specs.Prelude.{◌≡◌, ℕ, Bool, true, false, cond, ◌&&◌, List, [], ◌∷◌, ◌++◌, codes, Decides}
 use Rattle.scanner.specs.Classes.{class_of}
 use Rattle.scanner.specs.declared.classes.ByteClass.{ByteClass}
 use Rattle.scanner.specs.declared.classes.ByteClass.TheVariants as class
 use Rattle.scanner.specs.Rule.{passing, Clean}
 use Rattle.scanner.specs.declared.scan.State.{State}
 use Rattle.scanner.specs.declared.scan.State.TheVariants.{Nothing, Lead, Group}
+
+-- what happened where a sequence completes, and what to do
+abbrev pub forbidden : List ℕ
+forbidden = codes "the code could change the processor's protection: take out that sequence"
 
 -- the bytes that a state stands for: none, 0F, or 0F 01
 abbrev pub seen : State → List ℕ

@@ -37,7 +37,7 @@ impl From<ByteClass> for u8 {
 
 use ByteClass::{Group, Lead, Loads, Other, Writes};
 
-// The class of each byte, from 00 to FF.
+// The class of each byte, from 00 to FF: a table, since the scanner is to take one look-up a byte.
 const CLASSES: [ByteClass; 256] = [
     Other, Group, // 01
     Other, Other, Other, Other, Other, Other, Other, Other, Other, Other, Other, Other, Other,
@@ -94,7 +94,8 @@ pub fn class(byte: u8) -> ByteClass
     entry(byte as usize)
 }
 
-// An entry of the table.
+// An entry of the table. This function and the next are apart so that a wrong entry is found at the table, and a wrong
+// place at the class.
 fn entry(index: usize) -> ByteClass
     requires { index < 256 }
     ensures is { result ≡ class_of index }

@@ -51,7 +51,7 @@ impl Code for u64 {
 }
 
 impl Scanner {
-    // Takes a run of one byte.
+    // Takes a run of one byte: `feed` with what a run promises, apart so that a bug in either is found in its code.
     fn feed_one(&mut self, byte: u8) -> Result<(), Forbidden>
         ensures { Fed self.old (byte ∷ []) (is_ok result) self.new }
     {

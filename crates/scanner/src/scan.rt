@@ -1,9 +1,9 @@
 // The scanner: its states, and one byte.
 
-ghost use Rattle.std.specs.Prelude.{◌≡◌, ℕ, ◌&&◌, List, ◌∷◌, ◌++◌, is_ok};
+ghost use Rattle.std.specs.Prelude.{◌≡◌, ℕ, ◌&&◌, List, ◌∷◌, ◌++◌, Some, is_ok};
 ghost use Rattle.scanner.specs.Classes.{class_of};
 ghost use Rattle.scanner.specs.Rule.{passing};
-ghost use Rattle.scanner.specs.States.{seen, step};
+ghost use Rattle.scanner.specs.States.{forbidden, seen, step};
 ghost use Rattle.scanner.specs.declared.scan.State.{State};
 ghost use Rattle.scanner.specs.declared.scan.State.TheVariants.{Nothing};
 
@@ -28,9 +28,12 @@ pub enum State {
 pub struct Forbidden;
 
 impl fmt::Display for Forbidden {
+    ghost output = { λ _. Some forbidden };
+
     fn fmt<W: fmt::Write>(&self, f: &mut fmt::Formatter<W>) -> fmt::Result {
-        f.write_str(
-            "the code has a sequence of bytes that changes the processor's protection: take it out",
+        write!(
+            f,
+            "the code could change the processor's protection: take out that sequence"
         )
     }
 }
@@ -81,9 +84,6 @@ impl Scanner {
     pub fn may_end(&self) -> bool
         ensures { result ≡ passing (seen self.now) }
     {
-        match self.state {
-            State::Nothing => true,
-            State::Lead | State::Group => false,
-        }
+        matches!(self.state, State::Nothing)
     }
 }

@@ -177,10 +177,9 @@ pub fn read(heap: Global, line: &[u8]) -> Result<Option<Command>, Unread>
     ensures gives { Gives (option_map said) result (reading line.now) }
 {
     let mut words = Words::new(command_part(line_text(line)));
-    let name = next_word(&mut words);
-    if name.is_empty() {
+    let Some(name) = words.next() else {
         return Ok(None);
-    }
+    };
     let command = named(heap, name, &mut words)?;
     Ok(Some(command))
 }

@@ -19,6 +19,7 @@ fn put_answered(out: &mut Vec<u8>, command: &Command, answer: Answer) -> Result<
     put_shown(out, format_args!("{command}: {answer}\n"))
 }
 
+// A line need not be text, so it is put as bytes behind what is.
 fn put_unreadable(out: &mut Vec<u8>, number: u64, line: &[u8]) -> Result<(), AllocError>
     ensures { Puts result out.old.items (cannot_read number line.now) out.new.items }
 {

@@ -16,7 +16,6 @@ pub enum Supplied {
 }
 
 // A list of zeros.
-#[tactic(auto, using(memory::proofs::Zeros::zeros_shown))]
 fn zeros<T: Item<N>, const N: usize>(heap: Global, size: u64) -> Result<Vec<T>, AllocError>
     ensures words { IfOk result (λ v. T.words v.items ≡ replicate (512 * min (size / (512 * N)) 256) 0) }
     ensures length { IfOk result (λ v. length v.items ≡ size) }

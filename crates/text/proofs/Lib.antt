@@ -1,4 +1,3 @@
-pub mod Behind
 pub mod Finding
 mod Hexadecimals
 mod Pairing

@@ -42,7 +42,8 @@ impl Radix {
         number.checked_mul(radix)?.checked_add(digit)
     }
 
-    // The number that the digits write, or nothing where one is no digit or the number is 2^64 or more.
+    // The number that the digits write, or nothing where one is no digit or the number is 2^64 or more. As a `try_fold` its
+    // proof does not close.
     #[tactic(auto, using(crate::proofs::Reading::overflows))]
     fn total(self, digits: &[u8]) -> Option<u64>
         ensures { result ≡ reads_on (base self) 0 digits.now }
