@@ -8,7 +8,8 @@ ghost use Rattle.policy.specs.Policies.{permitted};
 use crate::span::Span;
 use crate::traits::Policy;
 
-// What a kind does in its region, by itself. It knows no region's number.
+// What a kind does in its region, by itself. It knows no region's number. Its ghost members stay single: clauses name one
+// at a time, and only the record of facts takes them together.
 pub(crate) trait Kind {
     // Whether an offset is open.
     ghost openness: { Self → ℕ → Bool };
