@@ -2,13 +2,15 @@
 --
 --   supplied_words, supplied_size    its words and its count of frames
 --   frames_for                       how many frames a list of a length shows
+--   AfterWrite                       that a write replaced one word of its list, and nothing else
+--   ZeroList                         that it is a list of zeros, of a kind and a length
 --   supplied_laws                    that it is a memory
-use Rattle.std.specs.Prelude.{◌≡◌, ℕ, ◌*◌, ◌/◌, ◌≤◌, min, List, length, vec_items}
+use Rattle.std.specs.Prelude.{◌≡◌, ℕ, ◌*◌, ◌/◌, ◌≤◌, min, List, length, replicate, vec_items, slice_set}
 use Rattle.memory.specs.ByteLaws.{byte_facts}
-use Rattle.memory.specs.ByteOrder.{words_of}
+use Rattle.memory.specs.ByteOrder.{put_word, words_of}
 use Rattle.memory.specs.Items.{list_laws}
 use Rattle.memory.specs.ItemLaws.{shows}
-use Rattle.memory.specs.Memories.{frames_in, shown, Lawful}
+use Rattle.memory.specs.Memories.{frames_in, shown, written, Lawful}
 use Rattle.memory.specs.WordLaws.{word_facts}
 use Rattle.script.specs.declared.commands.ListKind.{ListKind}
 use Rattle.script.specs.declared.commands.ListKind.TheVariants as kind
@@ -29,6 +31,18 @@ supplied_size (Bytes list) = frames_in 4096 (vec_items list)
 abbrev pub frames_for : ListKind → ℕ → ℕ
 frames_for kind.Words n = min (n / 512) 256
 frames_for kind.Bytes n = min (n / 4096) 256
+
+-- a list of that kind, so long, and zero throughout
+abbrev pub ZeroList : ListKind → ℕ → Supplied → Type 0
+ZeroList kind.Words size (Words list) = vec_items list ≡ replicate size 0
+ZeroList kind.Bytes size (Bytes list) = vec_items list ≡ replicate size 0
+ZeroList kind size supplied = ⊥
+
+-- the list is of the same kind, and what a write of one word makes of it
+abbrev pub AfterWrite : Supplied → ℕ → ℕ → Supplied → Type 0
+AfterWrite (Words was) index value (Words is) = vec_items is ≡ written 1 slice_set (vec_items was) index value
+AfterWrite (Bytes was) index value (Bytes is) = vec_items is ≡ written 8 put_word (vec_items was) index value
+AfterWrite was index value is = ⊥
 
 pub supplied_laws : Lawful supplied_words supplied_size
 supplied_laws = record { whole = whole; few = few }

@@ -1,6 +1,6 @@
 // The memory that a script supplies. It owns its list, and shows it as the lent kinds show theirs.
-ghost use Rattle.std.specs.Prelude.{◌≡◌, ◌*◌, ◌/◌, min, length, replicate, IfOk};
-ghost use Rattle.script.specs.Supplies.{supplied_words, supplied_size, frames_for, supplied_laws};
+ghost use Rattle.std.specs.Prelude.{◌≡◌, ◌*◌, ◌/◌, min, length, replicate, nat_lt, slice_set, IfOk};
+ghost use Rattle.script.specs.Supplies.{supplied_words, supplied_size, frames_for, supplied_laws, AfterWrite, ZeroList};
 
 use crate::commands::ListKind;
 use memory::items::Item;
@@ -18,7 +18,7 @@ pub enum Supplied {
 // A list of zeros.
 fn zeros<T: Item<N>, const N: usize>(heap: Global, size: u64) -> Result<Vec<T>, AllocError>
     ensures words { IfOk result (λ v. T.words v.items ≡ replicate (512 * min (size / (512 * N)) 256) 0) }
-    ensures length { IfOk result (λ v. length v.items ≡ size) }
+    ensures list { IfOk result (λ v. v.items ≡ replicate size T.nought) }
 {
     vec![in heap; T::zero(); size as usize]
 }
@@ -27,6 +27,7 @@ impl Supplied {
     // A list of zeros. Kind and size are the fields of the command that asks for it, and a struct of the two would only be
     // taken apart again.
     pub fn zeros(heap: Global, kind: ListKind, size: u64) -> Result<Supplied, AllocError>
+        ensures list { IfOk result (ZeroList kind size) }
         ensures words { IfOk result (λ s. supplied_words s ≡ replicate (512 * frames_for kind size) 0) }
         ensures frames { IfOk result (λ s. supplied_size s ≡ frames_for kind size) }
     {
@@ -59,7 +60,12 @@ impl Memory for Supplied {
         }
     }
 
-    fn write(&mut self, index: u64, value: u64) -> bool {
+    fn write(&mut self, index: u64, value: u64) -> bool
+        ensures same { supplied_size self.new ≡ supplied_size self.old }
+        ensures done { result ≡ nat_lt index (length (supplied_words self.old)) }
+        ensures after { supplied_words self.new ≡ slice_set (supplied_words self.old) index value }
+        ensures list { AfterWrite self.old index value self.new }
+    {
         match self {
             Supplied::Words(words) => list::write(words.as_mut_slice(), index, value),
             Supplied::Bytes(bytes) => list::write(bytes.as_mut_slice(), index, value),
