@@ -1,3 +1,4 @@
 -- Lemmas of this crate.
+pub mod Flags
 pub mod Permitting
 mod Telling

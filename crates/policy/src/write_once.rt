@@ -21,19 +21,15 @@ pub struct WriteOnce {
     fresh: [bool; FLAGS],
 }
 
-// Flags that are all set.
-fn all_set() -> [bool; FLAGS]
-    ensures { (o : ℕ) → flagged result o ≡ below 4096 o }
-{
-    [true; FLAGS]
-}
-
 impl WriteOnce {
     // The offsets below 4,096 are open.
+    #[tactic(auto, using(crate::proofs::Flags::all_set))]
     pub fn new() -> WriteOnce
         ensures starts { (region offset : ℕ) → write_once_opens result region offset ≡ alone (below 4096) region offset }
     {
-        WriteOnce { fresh: all_set() }
+        WriteOnce {
+            fresh: [true; FLAGS],
+        }
     }
 }
 
