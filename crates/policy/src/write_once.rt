@@ -42,11 +42,13 @@ impl Kind for WriteOnce {
 
     ghost facts = { write_once_facts };
 
+    #[tactic(auto, using(crate::proofs::Flags::stretch_open, crate::proofs::Flags::past_flags))]
     fn open(&self, span: Span) -> bool {
         span.end() <= ONCE
             && !self.fresh[span.offset() as usize..span.end() as usize].contains(&false)
     }
 
+    #[tactic(auto, using(crate::proofs::Flags::inside, crate::proofs::Flags::filled))]
     fn close(&mut self, span: Span) {
         self.fresh[span.offset() as usize..span.end() as usize].fill(false);
     }
