@@ -4,7 +4,7 @@ use Rattle.memory.specs.ByteLaws.{length-words_of, word_shown}
 use Rattle.memory.specs.ByteOrder.{byte_at, word_of, ByteOrder}
 
 -- Byte j of the word that eight bytes make is the j-th of them.
-byte_in : (list : List ℕ) (i j : ℕ) → ((m : ℕ) → m < 8 → byte_at list i m < 256) → j < 8 → word_of list i / 256 ^ j % 256 ≡ byte_at list i j
+pub byte_in : (list : List ℕ) (i j : ℕ) → ((m : ℕ) → m < 8 → byte_at list i m < 256) → j < 8 → word_of list i / 256 ^ j % 256 ≡ byte_at list i j
 unfolding word_of
 byte_in list i j small low =
     let b0 = small 0 (lit< tt) in

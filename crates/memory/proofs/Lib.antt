@@ -1,4 +1,4 @@
 -- Lemmas of this crate.
-mod Bytewise
+pub mod Bytewise
 pub mod Zeros
 mod Chunks

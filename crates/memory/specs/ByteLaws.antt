@@ -21,7 +21,7 @@ at_first : (list : List ℕ) (j : ℕ) → get_or list j 0 ≡ byte_at list 0 j
 at_first list j = let here : j ≡ 8 * 0 + j = omega arith in ap (λ k. get_or list k 0) here
 
 -- A word is the one that its eight bytes make, wherever they lie.
-same_word : (list other : List ℕ) (i k : ℕ) → ((j : ℕ) → j < 8 → byte_at list i j ≡ byte_at other k j) → word_of list i ≡ word_of other k
+pub same_word : (list other : List ℕ) (i k : ℕ) → ((j : ℕ) → j < 8 → byte_at list i j ≡ byte_at other k j) → word_of list i ≡ word_of other k
 unfolding word_of
 same_word list other i k same =
     let b0 = same 0 (lit< tt) in
@@ -35,7 +35,7 @@ same_word list other i k same =
     omega arith
 
 -- The bytes of a word make it again.
-bytes_back : (v : ℕ) → v < 2 ^ 64 → word_of (bytes_of v) 0 ≡ v
+pub bytes_back : (v : ℕ) → v < 2 ^ 64 → word_of (bytes_of v) 0 ≡ v
 unfolding word_of
 bytes_back v fits = omega arith
 
