@@ -1,0 +1,5 @@
+pub mod Lines
+pub mod Standing
+pub mod Places
+pub mod Frames
+pub mod Told

@@ -1,42 +1,57 @@
 -- The commands of a script, which line spells which, and how a command is printed.
 --
---   Said, said      what a command says: the command with its bytes as a list
+--   Said, said      what a command says: the command with its bytes or words as a list
 --   echo            a command as it is printed
 --   command_of      the command that a text without comment spells
 --   reading         what a whole line comes to
-use Rattle.std.specs.Prelude.{ℕ, Bool, cond, List, ◌++◌, length, Some, None, vec_items, codes, decimal, Option, ◌==◌, nat_le}
+--   asks_for_list   whether a line is to be read as a command with a list
+use Rattle.std.specs.Prelude.{ℕ, Bool, cond, ◌||◌, List, [], ◌∷◌, ◌++◌, length, Some, None, vec_items, codes, decimal, Option, ◌==◌, nat_le}
 use Rattle.std.specs.Option.{option_and_then, option_map}
+use Rattle.std.specs.List.{flat_map}
 use Rattle.std.specs.Str.{bytes_eq}
 use Rattle.script.specs.declared.commands.Command.{Command}
 use Rattle.script.specs.declared.commands.Command.TheVariants as command
 use Rattle.script.specs.declared.commands.ListKind.{ListKind}
 use Rattle.script.specs.declared.commands.ListKind.TheVariants.{Words, Bytes}
-use Rattle.text.specs.Lines.{line_text, command_part, after_word, word_at}
+use Rattle.text.specs.Lines.{line_text, command_part, after_word, word_at, words_of}
 use Rattle.text.specs.Numbers.{number_of, bytes_of}
 use Rattle.text.specs.Texts.{hexadecimal, hex_bytes}
 
--- a command as a value: its figures, and its bytes as a list
+-- a command as a value: its figures, and its bytes or words as a list
 pub data Said : Type 0 where
   memory : ListKind → ℕ → Said
   word : ℕ → ℕ → ℕ → Said
   scan : List ℕ → Said
+  journal : List ℕ → Said
+  records : Said
+  play : ℕ → ℕ → Said
 
 -- what a command of the program says
 abbrev pub said : Command → Said
 said (command.Memory kind size) = memory kind size
 said (command.Word frame index value) = word frame index value
 said (command.Scan bytes) = scan (vec_items bytes)
+said (command.Journal words) = journal (vec_items words)
+said command.Records = records
+said (command.Play first count) = play first count
 
 -- the name of a kind of list, as it is read and printed
 abbrev pub kind_name : ListKind → List ℕ
 kind_name Words = codes "words"
 kind_name Bytes = codes "bytes"
 
+-- what is shown of each item, each behind a blank
+abbrev pub set_apart : {A : Type 0} → (A → List ℕ) → List A → List ℕ
+set_apart show items = flat_map (λ a. codes " " ++ show a) items
+
 -- the words of the line, in one form
 abbrev pub echo : Said → List ℕ
 echo (memory kind size) = codes "memory " ++ (kind_name kind ++ (codes " " ++ decimal size))
 echo (word frame index value) = codes "word " ++ (decimal frame ++ (codes " " ++ (decimal index ++ (codes " " ++ hexadecimal value))))
 echo (scan bytes) = codes "scan " ++ hex_bytes bytes
+echo (journal words) = codes "journal" ++ set_apart hexadecimal words
+echo records = codes "records"
+echo (play first count) = codes "play " ++ (decimal first ++ (codes " " ++ decimal count))
 
 -- that a text has no word at a place, and so none behind it
 abbrev pub ends_before : List ℕ → ℕ → Bool
@@ -74,12 +89,36 @@ word_of t = option_and_then (λ f. option_and_then (λ i. option_and_then (λ w.
 unfoldable pub scan_of : List ℕ → Option Said
 scan_of t = option_and_then (λ bs. only t 1 (scan bs)) (bytes_of (word_at t 0))
 
+-- the numbers that words write in hexadecimal, behind others; none where one of them writes no number
+unfoldable pub numbers_behind : List ℕ → List (List ℕ) → Option (List ℕ)
+numbers_behind ns [] = Some ns
+numbers_behind ns (w ∷ ws) = option_and_then (λ n. numbers_behind (ns ++ n ∷ []) ws) (number_of 16 w)
+
+-- one number or more
+abbrev pub some_numbers : List ℕ → Option Said
+some_numbers ns = cond (length ns == 0) None (Some (journal ns))
+
+-- journal WORD WORD ..
+unfoldable pub journal_of : List ℕ → Option Said
+journal_of t = option_and_then some_numbers (numbers_behind [] (words_of t))
+
+-- records
+unfoldable pub records_of : List ℕ → Option Said
+records_of t = only t 0 records
+
+-- play FIRST COUNT
+unfoldable pub play_of : List ℕ → Option Said
+play_of t = option_and_then (λ f. option_and_then (λ c. only t 2 (play f c)) (decimal_at t 1)) (decimal_at t 0)
+
 -- the commands by their names, with what stands behind the name
 abbrev pub spelled : List ℕ → List ℕ → Option Said
 spelled name t =
     cond (bytes_eq name (codes "memory")) (memory_of t)
     (cond (bytes_eq name (codes "word")) (word_of t)
-    (cond (bytes_eq name (codes "scan")) (scan_of t) None))
+    (cond (bytes_eq name (codes "scan")) (scan_of t)
+    (cond (bytes_eq name (codes "journal")) (journal_of t)
+    (cond (bytes_eq name (codes "records")) (records_of t)
+    (cond (bytes_eq name (codes "play")) (play_of t) None)))))
 
 -- a text is a command by its first word and those behind it
 abbrev pub command_of : List ℕ → Option Said
@@ -89,6 +128,10 @@ command_of t = spelled (word_at t 0) (after_word t)
 abbrev pub reading : List ℕ → Option (Option Said)
 reading l = cond (ends_before (command_part (line_text l)) 0) (Some None) (option_map Some (command_of (command_part (line_text l))))
 
--- whether a line is to be read as `scan`, the one command that takes memory when it is read
-abbrev pub scans : List ℕ → Bool
-scans l = bytes_eq (word_at (command_part (line_text l)) 0) (codes "scan")
+-- whether a command of that name takes a list, and so memory when it is read
+abbrev pub takes_list : List ℕ → Bool
+takes_list name = bytes_eq name (codes "scan") || bytes_eq name (codes "journal")
+
+-- whether a line is to be read as such a command
+abbrev pub asks_for_list : List ℕ → Bool
+asks_for_list l = takes_list (word_at (command_part (line_text l)) 0)

@@ -1,10 +1,10 @@
 // The commands of a script, and how a line is read into one.
-ghost use Rattle.std.specs.Prelude.{◌≡◌, ◌==◌, false, length, codes, IsTrue, Some};
+ghost use Rattle.std.specs.Prelude.{◌≡◌, ◌==◌, false, [], length, vec_items, IsTrue, Some};
 ghost use Rattle.std.specs.Option.{ok_or, option_map};
-ghost use Rattle.std.specs.Str.{bytes_eq};
-ghost use Rattle.script.specs.Commands.{said, echo, kind_of, kind_name, most, memory_of, word_of, scan_of, spelled, reading, scans};
-ghost use Rattle.text.specs.Lines.{after_word, first_word};
+ghost use Rattle.script.specs.Commands.{set_apart, said, echo, kind_of, kind_name, most, memory_of, word_of, scan_of, numbers_behind, journal_of, records_of, play_of, spelled, reading, takes_list, asks_for_list};
+ghost use Rattle.text.specs.Lines.{after_word, first_word, words_of};
 ghost use Rattle.text.specs.Outcomes.{Gives, wants_memory};
+ghost use Rattle.text.specs.Texts.{hexadecimal};
 ghost use Rattle.text.specs.declared.outcomes.Unread.TheVariants.{Unreadable};
 
 use std::alloc::Global;
@@ -65,6 +65,24 @@ pub enum Command {
     Memory { kind: ListKind, size: u64 },
     Word { frame: u64, index: u64, value: u64 },
     Scan { bytes: Vec<u8> },
+    Journal { words: Vec<u64> },
+    Records,
+    Play { first: u64, count: u64 },
+}
+
+// Words that are shown in hexadecimal, each behind a blank.
+#[derive(Clone, Copy)]
+struct HexWords<'a>(&'a [u64]);
+
+impl fmt::Display for HexWords<'_> {
+    ghost output = { λ w. Some (set_apart hexadecimal w.0.now) };
+
+    fn fmt<W: fmt::Write>(&self, f: &mut fmt::Formatter<W>) -> fmt::Result {
+        for &word in self.0 {
+            write!(f, " {}", Hexadecimal(word))?;
+        }
+        Ok(())
+    }
 }
 
 // A command as it is printed, in one form.
@@ -80,6 +98,9 @@ impl fmt::Display for Command {
                 value,
             } => write!(f, "word {frame} {index} {}", Hexadecimal(*value)),
             Command::Scan { bytes } => write!(f, "scan {}", HexBytes(bytes.as_slice())),
+            Command::Journal { words } => write!(f, "journal{}", HexWords(words.as_slice())),
+            Command::Records => write!(f, "records"),
+            Command::Play { first, count } => write!(f, "play {first} {count}"),
         }
     }
 }
@@ -90,6 +111,12 @@ const MEMORY: &[u8] = b"memory";
 const WORD: &[u8] = b"word";
 
 const SCAN: &[u8] = b"scan";
+
+const JOURNAL: &[u8] = b"journal";
+
+const RECORDS: &[u8] = b"records";
+
+const PLAY: &[u8] = b"play";
 
 // The next word of a text; empty where there is none.
 fn next_word<'a>(words: &mut Words<'a>) -> &'a [u8]
@@ -152,10 +179,60 @@ fn scan_command(heap: Global, words: &mut Words<'_>) -> Result<Command, Unread>
     Err(Unread::Unreadable)
 }
 
+// The numbers that words write in hexadecimal.
+#[tactic(auto, unfolding(crate::specs::Commands::numbers_behind))]
+fn hexadecimals(heap: Global, words: &mut Words<'_>) -> Result<Vec<u64>, Unread>
+    ensures { Gives vec_items result (numbers_behind [] (words_of words.old)) }
+{
+    let mut numbers = Vec::new(heap);
+    for word in words {
+        numbers.push(hexadecimal(word).ok_or(Unread::Unreadable)?)?;
+    }
+    Ok(numbers)
+}
+
+// journal WORD WORD ..: the words behind the first
+#[tactic(auto, unfolding(crate::specs::Commands::journal_of))]
+fn journal_command(heap: Global, words: &mut Words<'_>) -> Result<Command, Unread>
+    ensures { Gives said result (journal_of words.old) }
+{
+    let words = hexadecimals(heap, words)?;
+    if words.is_empty() {
+        return Err(Unread::Unreadable);
+    }
+    Ok(Command::Journal { words })
+}
+
+// records: nothing stands behind it
+#[tactic(auto, unfolding(crate::specs::Commands::records_of, text::specs::Lines::after_words))]
+fn records_command(words: &mut Words<'_>) -> Result<Command, Unread>
+    ensures wants { wants_memory result ≡ false }
+    ensures gives { Gives said result (records_of words.old) }
+{
+    if ends(words) {
+        return Ok(Command::Records);
+    }
+    Err(Unread::Unreadable)
+}
+
+// play FIRST COUNT: the words behind the first
+#[tactic(auto, unfolding(crate::specs::Commands::play_of, text::specs::Lines::after_words))]
+fn play_command(words: &mut Words<'_>) -> Result<Command, Unread>
+    ensures wants { wants_memory result ≡ false }
+    ensures gives { Gives said result (play_of words.old) }
+{
+    let first = decimal(next_word(words)).ok_or(Unread::Unreadable)?;
+    let count = decimal(next_word(words)).ok_or(Unread::Unreadable)?;
+    if ends(words) {
+        return Ok(Command::Play { first, count });
+    }
+    Err(Unread::Unreadable)
+}
+
 // The command of that name, with the words behind it. The names are compared one by one: of a `match` on them the way
 // through a name of six bytes is not proved.
 fn named(heap: Global, name: &[u8], words: &mut Words<'_>) -> Result<Command, Unread>
-    ensures wants { IsTrue (wants_memory result) → IsTrue (bytes_eq name.now (codes "scan")) }
+    ensures wants { IsTrue (wants_memory result) → IsTrue (takes_list name.now) }
     ensures gives { Gives said result (spelled name.now words.old) }
 {
     if name == MEMORY {
@@ -167,13 +244,22 @@ fn named(heap: Global, name: &[u8], words: &mut Words<'_>) -> Result<Command, Un
     if name == SCAN {
         return scan_command(heap, words);
     }
+    if name == JOURNAL {
+        return journal_command(heap, words);
+    }
+    if name == RECORDS {
+        return records_command(words);
+    }
+    if name == PLAY {
+        return play_command(words);
+    }
     Err(Unread::Unreadable)
 }
 
 // Reads a line, with or without its line end. A line that holds no word before its comment asks for nothing.
 #[tactic(auto, unfolding(text::specs::Lines::after_words))]
 pub fn read(heap: Global, line: &[u8]) -> Result<Option<Command>, Unread>
-    ensures wants { IsTrue (wants_memory result) → IsTrue (scans line.now) }
+    ensures wants { IsTrue (wants_memory result) → IsTrue (asks_for_list line.now) }
     ensures gives { Gives (option_map said) result (reading line.now) }
 {
     let mut words = Words::new(command_part(line_text(line)));

@@ -3,6 +3,8 @@
 #![tactic(auto)]
 
 pub mod commands;
+pub mod listings;
+pub mod pictures;
 pub mod replies;
 pub mod session;
 pub mod supplied;

@@ -2,7 +2,7 @@
 ghost use Rattle.std.specs.Prelude.{◌≡◌, ◌++◌, codes, OnErr, OnOk};
 ghost use Rattle.script.specs.Commands.{said, echo};
 ghost use Rattle.script.specs.Replies.{cannot_read, line_feed, Answered, Replied, Whole};
-ghost use Rattle.script.specs.Sessions.{answer_text};
+ghost use Rattle.script.specs.Sessions.{answer_text, told};
 ghost use Rattle.text.specs.Texts.{Puts};
 
 use crate::commands::{Command, read};
@@ -13,7 +13,7 @@ use text::outcomes::Unread;
 use text::printing::{put, put_shown};
 
 fn put_answered(out: &mut Vec<u8>, command: &Command, answer: Answer) -> Result<(), AllocError>
-    ensures done { Puts result out.old.items (echo (said command.now) ++ (codes ": " ++ (answer_text answer ++ line_feed))) out.new.items }
+    ensures done { Puts result out.old.items (echo (said command.now) ++ (codes ": " ++ (answer_text (told answer) ++ line_feed))) out.new.items }
     ensures same { OnErr result (out.new.items ≡ out.old.items) }
 {
     put_shown(out, format_args!("{command}: {answer}\n"))

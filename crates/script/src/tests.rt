@@ -69,3 +69,44 @@ fn a_session(rt: HostRuntime) -> Result<(), Fail> {
     }
     Ok(())
 }
+
+#[test]
+fn a_journal(rt: HostRuntime) -> Result<(), Fail> {
+    let heap = rt.alloc();
+    let script: [(&[u8], &[u8]); 12] = [
+        (b"journal 1\n", b"line 1: cannot read: journal 1\n"),
+        (b"records\n", b"records: 0 records\n"),
+        (b"play 0 1\n", b"line 3: cannot read: play 0 1\n"),
+        (b"memory words 5000\n", b"memory words 5000: 9 frames\n"),
+        (
+            b"journal 100107000104 05 9\n",
+            b"journal 100107000104 5 9: 3 words\n",
+        ),
+        (
+            b"records\n",
+            b"records: 1 records\n  taken region 1 first 7 length 4097\n  refused 52 at place 1\n",
+        ),
+        (
+            b"play 0 1\n",
+            b"play 0 1: refused 52 at record 1, place 1\n",
+        ),
+        (b"play 9 1\n", b"play 9 1: refused 4\n"),
+        (b"memory words 5000\n", b"memory words 5000: 9 frames\n"),
+        (
+            b"journal 200007000104 ff800000105 9 0807060504030201 ff\n",
+            b"journal 200007000104 FF800000105 9 807060504030201 FF: 5 words\n",
+        ),
+        (
+            b"play 0 1\n",
+            b"play 0 1: 2 records played\n  kinds 7 0 0 0 0 0 0 5 5\n  frame 7: 511=807060504030201\n  frame 8: 0=FF\n",
+        ),
+        (b"play\n", b"line 12: cannot read: play\n"),
+    ];
+    let mut session = Session::new();
+    for (number, (line, printed)) in (1..).zip(script) {
+        let mut reply = Vec::new(heap);
+        session.line(heap, number, line, &mut reply)?;
+        assert!(rt; reply.as_slice() == printed, "{}", number);
+    }
+    Ok(())
+}
