@@ -7,14 +7,7 @@ use Rattle.std.proofs.lemmas.List.{drop-drop}
 use Rattle.std.proofs.lemmas.Option.{slice_get-get_or}
 use Rattle.journal.specs.declared.kinds.FrameKind.TheVariants as kind
 use Rattle.script.specs.Listings.{below}
-use Rattle.script.specs.Pictures.{frame_words, may_be_listed, nonzero, words_text}
-
--- the line of a frame, and whether it is listed
-abbrev pub shown : List ℕ → ℕ → List ℕ
-shown ws f = below (codes "frame " ++ (decimal f ++ (codes ":" ++ words_text (frame_words ws f))))
-
-abbrev pub passes : List ℕ → List FrameKind → ℕ → Bool
-passes ws ks f = may_be_listed (slice_get ks f) && list_any nonzero (frame_words ws f)
+use Rattle.script.specs.Pictures.{frame_line, frame_words, is_listed, may_be_listed, nonzero, words_text}
 
 -- the words behind the next frame
 pub rest_on : (ws rest : List ℕ) (n : ℕ) → rest ≡ drop (512 * n) ws → drop 512 rest ≡ drop (512 * (n + 1)) ws
@@ -23,10 +16,10 @@ rest_on ws rest n e =
     ap (drop 512) e ∙ drop-drop 512 (512 * n) ws ∙ ap (λ j. drop j ws) k
 
 -- what is found of a frame's kind and words says whether it is listed
-pub passes_as : (ws : List ℕ) (ks : List FrameKind) (n : ℕ) (here : List ℕ) (b : Bool) → n < length ks → here ≡ frame_words ws n → b ≡ (may_be_listed (Some (get_or ks n kind.Plain)) && list_any nonzero here) → passes ws ks n ≡ b
+pub passes_as : (ws : List ℕ) (ks : List FrameKind) (n : ℕ) (here : List ℕ) (b : Bool) → n < length ks → here ≡ frame_words ws n → b ≡ (may_be_listed (Some (get_or ks n kind.Plain)) && list_any nonzero here) → is_listed ws ks n ≡ b
 passes_as ws ks n here b within is e =
     sym (e ∙ ap (λ o. may_be_listed o && list_any nonzero here) (sym (slice_get-get_or ks n kind.Plain within)) ∙ ap (λ l. may_be_listed (slice_get ks n) && list_any nonzero l) is)
 
 -- the line of a frame by its words
-pub shown_as : (ws : List ℕ) (n : ℕ) (here : List ℕ) → here ≡ frame_words ws n → below (codes "frame " ++ (decimal n ++ (codes ":" ++ words_text here))) ≡ shown ws n
+pub shown_as : (ws : List ℕ) (n : ℕ) (here : List ℕ) → here ≡ frame_words ws n → below (codes "frame " ++ (decimal n ++ (codes ":" ++ words_text here))) ≡ frame_line ws n
 shown_as ws n here is = ap (λ l. below (codes "frame " ++ (decimal n ++ (codes ":" ++ words_text l)))) is

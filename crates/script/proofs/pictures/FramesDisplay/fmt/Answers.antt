@@ -3,7 +3,8 @@ use Rattle.std.proofs.Common.{◌≡◌, ◌+◌, ◌*◌, drop, take, ap, sym, 
 use Rattle.std.specs.Fmt.{HasWritten}
 use Rattle.std.proofs.Output.{has_written_of_eq, has_written_append}
 use Rattle.script.specs.Pictures.{frame_words}
-use Rattle.script.proofs.Frames.{passes, passes_as, rest_on, shown, shown_as}
+use Rattle.script.specs.Pictures.{frame_line, is_listed}
+use Rattle.script.proofs.Frames.{passes_as, rest_on, shown_as}
 use Rattle.script.proofs.Places.{below_n, passed_over, put_in}
 use Rattle.script.proofs.pictures.FramesDisplay.fmt.Goals as goal
 use Rattle.script.proofs.pictures.FramesDisplay.fmt.Goals.{then-is_listed+in_ok-write, else-is_listed}
@@ -21,15 +22,15 @@ loop-frame-preserved g c =
           record {
             left = ap (λ r. r.now) w.rest-is ∙ next;
             text = λ plain.
-                subst (λ h. HasWritten g.W.Write.write_str_gives c.args.f.now (below_n (shown ws) (passes ws ks) (n + 1)) h) (sym w.f-is)
-                (has_written_of_eq _ _ _ _ _ (put_in (shown ws) (passes ws ks) n (test ∙ w.if-is_listed.true))
+                subst (λ h. HasWritten g.W.Write.write_str_gives c.args.f.now (below_n (frame_line ws) (is_listed ws ks) (n + 1)) h) (sym w.f-is)
+                (has_written_of_eq _ _ _ _ _ (put_in (frame_line ws) (is_listed ws ks) n (test ∙ w.if-is_listed.true))
                 (has_written_append _ _ _ _ _ _ (c.loop-frame.invariant.text plain) (has_written_of_eq _ _ _ _ _ (shown_as ws n c.split_frame.result.0.now is) (search rules))));
           }
       | else-is_listed w ↦
           record {
             left = ap (λ r. r.now) w.rest-is ∙ next;
             text = λ plain.
-                subst (λ h. HasWritten g.W.Write.write_str_gives c.args.f.now (below_n (shown ws) (passes ws ks) (n + 1)) h) (sym w.f-is)
-                (has_written_of_eq _ _ _ _ _ (passed_over (shown ws) (passes ws ks) n (test ∙ w.if-is_listed.false)) (c.loop-frame.invariant.text plain));
+                subst (λ h. HasWritten g.W.Write.write_str_gives c.args.f.now (below_n (frame_line ws) (is_listed ws ks) (n + 1)) h) (sym w.f-is)
+                (has_written_of_eq _ _ _ _ _ (passed_over (frame_line ws) (is_listed ws ks) n (test ∙ w.if-is_listed.false)) (c.loop-frame.invariant.text plain));
           }
     ]
