@@ -1,0 +1,6 @@
+-- What the contracts of this crate speak of.
+pub mod Entries
+pub mod Addresses
+pub mod Walks
+pub mod Questions
+pub mod Faults
