@@ -1,0 +1,48 @@
+// Loads, stores and fetches through the page tables.
+
+ghost use Rattle.std.specs.Prelude.{◌≡◌, cond, is_ok, None};
+ghost use Rattle.journal.specs.Figures.{refusal};
+ghost use Rattle.journal.specs.Pictures.{with_words};
+ghost use Rattle.journal.specs.Questions.{first_no};
+ghost use Rattle.paging.specs.Questions.{access_questions, fault_number, translated};
+ghost use Rattle.paging.specs.declared.faults.Access.TheVariants.{Store};
+ghost use Rattle.guard.specs.Guarding.{guarded_of, with_picture};
+ghost use Rattle.guard.specs.Steps.{fault_in, reached, stored, value_in};
+
+use crate::guarded::GuardedMemory;
+use memory::traits::Memory;
+use paging::faults::{Access, AccessFault};
+use paging::walk::translate;
+
+impl<M: Memory> GuardedMemory<M> {
+    // The word that an access reaches from a root, or why it reaches none.
+    pub fn word_reached(
+        &self,
+        root: Option<u8>,
+        address: u64,
+        access: Access,
+    ) -> Result<u64, AccessFault>
+        ensures number { refusal fault_number result ≡ first_no (access_questions (guarded_of M.words self.now).picture.words root address access) }
+        ensures ends { fault_in result ≡ fault_in (translated (guarded_of M.words self.now).picture.words root address access) }
+        ensures word { value_in result ≡ cond (is_ok result) (reached (guarded_of M.words self.now).picture.words root address) None }
+    {
+        let index = translate(&self.memory, root, address, access)?;
+        Ok(self.memory.read(index).unwrap_or(0))
+    }
+
+    // Replaces the word that a store reaches from a root, or says why it reaches none and changes nothing.
+    pub fn store_word(
+        &mut self,
+        root: Option<u8>,
+        address: u64,
+        value: u64,
+    ) -> Result<(), AccessFault>
+        ensures number { refusal fault_number result ≡ first_no (access_questions (guarded_of M.words self.old).picture.words root address Store) }
+        ensures ends { fault_in result ≡ fault_in (translated (guarded_of M.words self.old).picture.words root address Store) }
+        ensures after { guarded_of M.words self.new ≡ with_picture (guarded_of M.words self.old) (with_words (guarded_of M.words self.old).picture (cond (is_ok result) (stored (guarded_of M.words self.old).picture.words root address value) (guarded_of M.words self.old).picture.words)) }
+    {
+        let index = translate(&self.memory, root, address, Access::Store)?;
+        let _ = self.memory.write(index, value);
+        Ok(())
+    }
+}
