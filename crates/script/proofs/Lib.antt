@@ -3,3 +3,4 @@ pub mod Standing
 pub mod Places
 pub mod Frames
 pub mod Told
+pub mod NewPolicies

@@ -16,23 +16,34 @@ use Rattle.script.specs.declared.commands.ListKind.TheVariants.{Words, Bytes}
 use Rattle.text.specs.Lines.{line_text, command_part, after_word, word_at, words_of}
 use Rattle.text.specs.Numbers.{number_of, bytes_of}
 use Rattle.text.specs.Texts.{hexadecimal, hex_bytes}
+use Rattle.guard.specs.Calls.{Request}
+use Rattle.script.specs.Calls.{asked, asked_of, request_text}
+use Rattle.script.specs.Operands.{decimal_at, ends_before, one_word, only, place_and_word, two_numbers}
 
 -- a command as a value: its figures, and its bytes or words as a list
 pub data Said : Type 0 where
   memory : ListKind → ℕ → Said
   word : ℕ → ℕ → ℕ → Said
+  machine : ℕ → ℕ → Said
+  call : Request → Said
   scan : List ℕ → Said
+  split : ℕ → Said
   journal : List ℕ → Said
   records : Said
+  play_log : Said
   play : ℕ → ℕ → Said
 
 -- what a command of the program says
 abbrev pub said : Command → Said
 said (command.Memory kind size) = memory kind size
 said (command.Word frame index value) = word frame index value
+said (command.Machine first count) = machine first count
+said (command.Call c) = call (asked c)
 said (command.Scan bytes) = scan (vec_items bytes)
+said (command.Split address) = split address
 said (command.Journal words) = journal (vec_items words)
 said command.Records = records
+said command.PlayLog = play_log
 said (command.Play first count) = play first count
 
 -- the name of a kind of list, as it is read and printed
@@ -48,25 +59,14 @@ set_apart show items = flat_map (λ a. codes " " ++ show a) items
 abbrev pub echo : Said → List ℕ
 echo (memory kind size) = codes "memory " ++ (kind_name kind ++ (codes " " ++ decimal size))
 echo (word frame index value) = codes "word " ++ (decimal frame ++ (codes " " ++ (decimal index ++ (codes " " ++ hexadecimal value))))
+echo (machine first count) = codes "machine " ++ (decimal first ++ (codes " " ++ decimal count))
+echo (call request) = request_text request
 echo (scan bytes) = codes "scan " ++ hex_bytes bytes
+echo (split address) = codes "split " ++ hexadecimal address
 echo (journal words) = codes "journal" ++ set_apart hexadecimal words
 echo records = codes "records"
+echo play_log = codes "play"
 echo (play first count) = codes "play " ++ (decimal first ++ (codes " " ++ decimal count))
-
--- that a text has no word at a place, and so none behind it
-abbrev pub ends_before : List ℕ → ℕ → Bool
-ends_before t n = length (word_at t n) == 0
-
--- the value, where no word of the text is left over from the place n on
-abbrev pub only : {A : Type 0} → List ℕ → ℕ → A → Option A
-only t n a = cond (ends_before t n) (Some a) None
-
--- the decimal and the hexadecimal number at a place of a text
-abbrev pub decimal_at : List ℕ → ℕ → Option ℕ
-decimal_at t n = number_of 10 (word_at t n)
-
-abbrev pub hexadecimal_at : List ℕ → ℕ → Option ℕ
-hexadecimal_at t n = number_of 16 (word_at t n)
 
 -- what the list is made of, by its name
 abbrev pub kind_of : List ℕ → Option ListKind
@@ -82,12 +82,20 @@ unfoldable pub memory_of : List ℕ → Option Said
 memory_of t = option_and_then (λ k. option_and_then (λ n. cond (nat_le n (most k)) (only t 2 (memory k n)) None) (decimal_at t 1)) (kind_of (word_at t 0))
 
 -- word FRAME INDEX WORD
-unfoldable pub word_of : List ℕ → Option Said
-word_of t = option_and_then (λ f. option_and_then (λ i. option_and_then (λ w. only t 3 (word f i w)) (hexadecimal_at t 2)) (decimal_at t 1)) (decimal_at t 0)
+abbrev pub word_of : List ℕ → Option Said
+word_of t = option_map (λ p. word p.0 p.1 p.2) (place_and_word t)
+
+-- machine FIRST COUNT
+abbrev pub machine_of : List ℕ → Option Said
+machine_of t = option_map (λ p. machine p.0 p.1) (two_numbers t)
 
 -- scan BYTES
 unfoldable pub scan_of : List ℕ → Option Said
 scan_of t = option_and_then (λ bs. only t 1 (scan bs)) (bytes_of (word_at t 0))
+
+-- split ADDRESS
+abbrev pub split_of : List ℕ → Option Said
+split_of t = option_map split (one_word t)
 
 -- the numbers that words write in hexadecimal, behind others; none where one of them writes no number
 unfoldable pub numbers_behind : List ℕ → List (List ℕ) → Option (List ℕ)
@@ -106,19 +114,22 @@ journal_of t = option_and_then some_numbers (numbers_behind [] (words_of t))
 unfoldable pub records_of : List ℕ → Option Said
 records_of t = only t 0 records
 
--- play FIRST COUNT
+-- play FIRST COUNT, or play alone
 unfoldable pub play_of : List ℕ → Option Said
-play_of t = option_and_then (λ f. option_and_then (λ c. only t 2 (play f c)) (decimal_at t 1)) (decimal_at t 0)
+play_of t = cond (ends_before t 0) (Some play_log) (option_and_then (λ f. option_and_then (λ c. only t 2 (play f c)) (decimal_at t 1)) (decimal_at t 0))
 
 -- the commands by their names, with what stands behind the name
 abbrev pub spelled : List ℕ → List ℕ → Option Said
 spelled name t =
     cond (bytes_eq name (codes "memory")) (memory_of t)
     (cond (bytes_eq name (codes "word")) (word_of t)
+    (cond (bytes_eq name (codes "machine")) (machine_of t)
     (cond (bytes_eq name (codes "scan")) (scan_of t)
+    (cond (bytes_eq name (codes "split")) (split_of t)
     (cond (bytes_eq name (codes "journal")) (journal_of t)
     (cond (bytes_eq name (codes "records")) (records_of t)
-    (cond (bytes_eq name (codes "play")) (play_of t) None)))))
+    (cond (bytes_eq name (codes "play")) (play_of t)
+    (option_map call (asked_of name t)))))))))
 
 -- a text is a command by its first word and those behind it
 abbrev pub command_of : List ℕ → Option Said
@@ -130,7 +141,7 @@ reading l = cond (ends_before (command_part (line_text l)) 0) (Some None) (optio
 
 -- whether a command of that name takes a list, and so memory when it is read
 abbrev pub takes_list : List ℕ → Bool
-takes_list name = bytes_eq name (codes "scan") || bytes_eq name (codes "journal")
+takes_list name = bytes_eq name (codes "scan") || (bytes_eq name (codes "journal") || bytes_eq name (codes "write"))
 
 -- whether a line is to be read as such a command
 abbrev pub asks_for_list : List ℕ → Bool

@@ -1,6 +1,9 @@
+pub mod Operands
+pub mod Calls
 pub mod Commands
 pub mod Supplies
 pub mod Listings
 pub mod Pictures
+pub mod Machines
 pub mod Sessions
 pub mod Replies

@@ -7,7 +7,8 @@
 --   Whole           that a line was carried out whole or not at all
 --   Answered        what came of a line, before one that cannot be read is answered
 use Rattle.std.specs.Prelude.{◌≡◌, ℕ, false, cond, ◌⊎◌, List, [], ◌∷◌, ◌++◌, is_some, Some, None, Ok, Err, codes, decimal, Option, Result}
-use Rattle.script.specs.Commands.{Said, echo, ends_before, reading}
+use Rattle.script.specs.Commands.{Said, echo, reading}
+use Rattle.script.specs.Operands.{ends_before}
 use Rattle.text.specs.declared.outcomes.Unread.{Unread}
 use Rattle.text.specs.declared.outcomes.Unread.TheVariants.{Unreadable, Memory}
 use Rattle.text.specs.Lines.{line_text, command_part, shown_text}

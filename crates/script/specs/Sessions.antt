@@ -1,13 +1,14 @@
 -- What a command does to a session, and what answers it. A session is seen as what a script has set up, if it has set up anything.
 --
---   Held            the words that the memory shows, and those of a journal that are kept
+--   Basis           what a session stands on: the words of a supplied memory, or a machine and its figures
+--   Held, held      this, and the words of a journal that are kept
 --   Told, told      what an answer says
 --   answer_text     an answer as it is printed
 --   answer_of       the answer to a command; none where it cannot be read at this point
 --   held_after      what is held after a command that was answered
 --   Carries         that a call answered a command, and left the session as it should
-use Rattle.std.specs.Prelude.{◌≡◌, ℕ, ◌+◌, ◌*◌, ◌/◌, Bool, true, false, cond, ◌&&◌, List, [], ◌++◌, length, replicate, is_ok, is_some, Some, None, codes, decimal, Option, Result, nat_lt, slice_set, vec_items}
-use Rattle.std.specs.Option.{option_map}
+use Rattle.std.specs.Prelude.{◌≡◌, ℕ, ◌+◌, ◌*◌, Bool, true, false, cond, ◌&&◌, List, [], ◌++◌, length, replicate, is_ok, is_some, Some, None, codes, decimal, Option, Result, nat_lt, slice_set, vec_items}
+use Rattle.std.specs.Option.{option_and_then, option_map}
 use Rattle.journal.specs.Pictures.{Picture}
 use Rattle.journal.specs.Playing.{Outcome, fault_says, picture_from, played, playing, start}
 use Rattle.journal.specs.declared.figures.LogFigures.{LogFigures}
@@ -17,24 +18,58 @@ use Rattle.scanner.specs.Rule.{passing}
 use Rattle.text.specs.declared.outcomes.Unread.{Unread}
 use Rattle.script.specs.declared.session.Answer.{Answer}
 use Rattle.script.specs.declared.session.Answer.TheVariants as answer
-use Rattle.script.specs.Commands.{Said, memory, word, scan, journal, records, play}
+use Rattle.script.specs.declared.session.Setup.{Setup}
+use Rattle.script.specs.declared.session.Stage.{Stage}
+use Rattle.script.specs.declared.session.Stage.TheVariants as stage
+use Rattle.guard.specs.Calls.{Request, number_in, stopped_in_answer, word_in}
+use Rattle.guard.specs.States.{State}
+use Rattle.journal.specs.Figures.{figure_number, figure_questions}
+use Rattle.journal.specs.Questions.{first_no}
+use Rattle.machine.specs.Machines.{state_of}
+use Rattle.paging.specs.Addresses.{parts_of}
+use Rattle.paging.specs.declared.faults.Stopped.{Stopped}
+use Rattle.paging.specs.declared.parts.Split.{Split}
+use Rattle.script.specs.Commands.{Said, memory, word, machine, call, scan, split, journal, records, play_log, play}
+use Rattle.script.specs.Machines.{Policies, call_after, call_number, call_stop, call_text, call_word, frames_shown, log_figures, made_text, new_machine, parts_text}
 use Rattle.text.specs.Outcomes.{Gives, wants_memory}
 use Rattle.script.specs.Listings.{listing}
 use Rattle.script.specs.Pictures.{outcome_text, picture_text, played_text}
-use Rattle.script.specs.Supplies.{frames_for}
+use Rattle.script.specs.Supplies.{frames_for, supplied_words}
 
--- the words that the memory shows, and the words of a journal that are kept
+-- the words of a memory that was supplied, or a machine over it with the figures on which it was made
+pub data Basis : Type 0 where
+  supplied : List ℕ → Basis
+  machined : LogFigures → State Policies → Basis
+
+-- what a session stands on, and the words of a journal that are kept
 pub record Held : Type 0 where
-  pub shown : List ℕ
+  pub basis : Basis
   pub kept : List ℕ
 
--- an answer as a value: so many frames or words, nothing to tell, a verdict, the words whose records are listed, the records that
+-- what a setup of the program holds
+abbrev pub basis_of : Stage → Basis
+basis_of (stage.Supplied list) = supplied (supplied_words list)
+basis_of (stage.Machine made) = machined made.figures (state_of supplied_words made.machine)
+
+abbrev pub held : Setup → Held
+held setup = record { basis = basis_of setup.stage; kept = vec_items setup.journal }
+
+-- how many frames there are
+abbrev pub frames_of : Basis → ℕ
+frames_of (supplied ws) = frames_shown ws
+frames_of (machined f s) = f.frames
+
+-- an answer as a value: so many frames or words, nothing to tell, the figures' question that has a no, what is told of a call (the number of its
+-- refusal, where its walk ended, and its word), a verdict, the parts of an address, the words whose records are listed, the records that
 -- were played with the words and kinds that they made, or how playing ended otherwise
 pub data Told : Type 0 where
   frames : ℕ → Told
   words : ℕ → Told
   done : Told
+  making : Option ℕ → Told
+  called : Option ℕ → Option Stopped → Option ℕ → Told
   verdict : Bool → Told
+  parts : Split → Told
   listed : List ℕ → Told
   made : ℕ → List ℕ → List FrameKind → Told
   unplayed : Outcome → Told
@@ -44,6 +79,9 @@ abbrev pub told : Answer → Told
 told (answer.Frames n) = frames n
 told (answer.Words n) = words n
 told answer.Done = done
+told (answer.Making bad) = making (option_map figure_number bad)
+told (answer.Called a) = called (number_in a) (stopped_in_answer a) (word_in a)
+told (answer.Parts p) = parts p
 told answer.Passes = verdict true
 told answer.Fails = verdict false
 told (answer.Records ws) = listed (vec_items ws)
@@ -55,24 +93,33 @@ abbrev pub answer_text : Told → List ℕ
 answer_text (frames n) = decimal n ++ codes " frames"
 answer_text (words n) = decimal n ++ codes " words"
 answer_text done = codes "ok"
+answer_text (making number) = made_text number
+answer_text (called number place w) = call_text number place w
+answer_text (parts p) = parts_text p
 answer_text (verdict passes) = cond passes (codes "passes") (codes "fails")
 answer_text (listed ws) = listing ws
 answer_text (made n ws ks) = played_text n (picture_text ws ks)
 answer_text (unplayed o) = outcome_text o
 
--- `word` has its place in the memory where its index is in the frame, and the frame is shown
-abbrev pub preset_answer : Option Held → ℕ → ℕ → Option Told
-preset_answer None frame index = None
-preset_answer (Some h) frame index = cond (nat_lt index 512 && nat_lt (512 * frame + index) (length h.shown)) (Some done) None
+-- `word` has its place in a supplied memory where its index is in the frame, and the frame is shown; over a machine it has none
+abbrev pub preset_in : Basis → ℕ → ℕ → Option Told
+preset_in (supplied ws) frame index = cond (nat_lt index 512 && nat_lt (512 * frame + index) (length ws)) (Some done) None
+preset_in (machined f s) frame index = None
+
+-- a machine is made over a supplied memory, and tells which of its figures' questions has a no
+abbrev pub make_in : Basis → ℕ → ℕ → Option Told
+make_in (supplied ws) first count = Some (making (first_no (figure_questions (frames_shown ws) first count)))
+make_in (machined f s) first count = None
+
+-- a call needs a machine
+abbrev pub call_in : Basis → Request → Option Told
+call_in (supplied ws) q = None
+call_in (machined f s) q = Some (called (call_number q s) (call_stop q s) (call_word q s))
 
 -- the words that are kept; none where nothing was set up
 abbrev pub kept_in : Option Held → List ℕ
 kept_in None = []
 kept_in (Some h) = h.kept
-
--- the figures of n frames, of which `count` frames from `first` on are log frames
-abbrev pub log_figures : ℕ → ℕ → ℕ → LogFigures
-log_figures n first count = record { frames = n; first = first; count = count }
 
 -- what is told of playing, by what came of it and what it made
 abbrev pub playing_told : Outcome → Picture → Told
@@ -83,34 +130,62 @@ playing_told other p = unplayed other
 unfoldable pub play_answer : LogFigures → List ℕ → Told
 play_answer f ws = playing_told (playing f ws (replicate (512 * f.frames) 0) (replicate f.frames kind.Plain)) (picture_from (start f) ws)
 
--- the count of frames, that the word was put, the scanner's verdict, how many words are kept, their records, or what playing them comes to
+-- words are played on the figures of the machine, where there is one
+abbrev pub play_log_in : Basis → List ℕ → Option Told
+play_log_in (supplied ws) kept = None
+play_log_in (machined f s) kept = Some (play_answer f kept)
+
+-- the answer to each command: most of them need something that was set up
 abbrev pub answer_of : Option Held → Said → Option Told
 answer_of m (memory kind size) = Some (frames (frames_for kind size))
-answer_of m (word frame index value) = preset_answer m frame index
+answer_of m (word frame index value) = option_and_then (λ h. preset_in h.basis frame index) m
+answer_of m (machine first count) = option_and_then (λ h. make_in h.basis first count) m
+answer_of m (call q) = option_and_then (λ h. call_in h.basis q) m
 answer_of m (scan bytes) = Some (verdict (passing bytes))
+answer_of m (split address) = Some (parts (parts_of address))
 answer_of m (journal ws) = option_map (λ h. words (length h.kept + length ws)) m
 answer_of m records = Some (listed (kept_in m))
-answer_of m (play first count) = option_map (λ h. play_answer (log_figures (length h.shown / 512) first count) h.kept) m
+answer_of m play_log = option_and_then (λ h. play_log_in h.basis h.kept) m
+answer_of m (play first count) = option_map (λ h. play_answer (log_figures (frames_of h.basis) first count) h.kept) m
 
 -- a new memory, zero throughout, with which no words are kept
 abbrev pub new_memory : ℕ → Held
-new_memory count = record { shown = replicate (512 * count) 0; kept = [] }
+new_memory count = record { basis = supplied (replicate (512 * count) 0); kept = [] }
 
--- with one word of the memory replaced
-abbrev pub with_word : ℕ → ℕ → Held → Held
-with_word place value h = record { shown = slice_set h.shown place value; kept = h.kept }
+-- with another basis
+abbrev pub with_basis : (Basis → Basis) → Held → Held
+with_basis change h = record { basis = change h.basis; kept = h.kept }
+
+-- with one word of a supplied memory replaced
+abbrev pub with_word : ℕ → ℕ → Basis → Basis
+with_word place value (supplied ws) = supplied (slice_set ws place value)
+with_word place value (machined f s) = machined f s
+
+-- with a machine over the supplied memory
+abbrev pub with_machine : ℕ → ℕ → Basis → Basis
+with_machine first count (supplied ws) = machined (log_figures (frames_shown ws) first count) (new_machine ws first count)
+with_machine first count (machined f s) = machined f s
+
+-- with the machine as it is after a call
+abbrev pub with_call : Request → Basis → Basis
+with_call q (supplied ws) = supplied ws
+with_call q (machined f s) = machined f (call_after q s)
 
 -- with more words kept
 abbrev pub with_kept : List ℕ → Held → Held
-with_kept ws h = record { shown = h.shown; kept = h.kept ++ ws }
+with_kept ws h = record { basis = h.basis; kept = h.kept ++ ws }
 
--- `memory`, `word` and `journal` change what is held, and no other command does
+-- `memory`, `word`, `machine`, the calls and `journal` change what is held, and no other command does
 abbrev pub held_after : Option Held → Said → Option Held
 held_after m (memory kind size) = Some (new_memory (frames_for kind size))
-held_after m (word frame index value) = option_map (with_word (512 * frame + index) value) m
+held_after m (word frame index value) = option_map (with_basis (with_word (512 * frame + index) value)) m
+held_after m (machine first count) = option_map (with_basis (with_machine first count)) m
+held_after m (call q) = option_map (with_basis (with_call q)) m
 held_after m (scan bytes) = m
+held_after m (split address) = m
 held_after m (journal ws) = option_map (with_kept ws) m
 held_after m records = m
+held_after m play_log = m
 held_after m (play first count) = m
 
 -- whether carrying out a command takes memory: a new list does, and a copy of the words that are kept; and more words, or lists to play
@@ -118,9 +193,13 @@ held_after m (play first count) = m
 abbrev pub allocates : Option Held → Said → Bool
 allocates m (memory kind size) = true
 allocates m (word frame index value) = false
+allocates m (machine first count) = false
+allocates m (call q) = false
 allocates m (scan bytes) = false
+allocates m (split address) = false
 allocates m (journal ws) = is_some m
 allocates m records = true
+allocates m play_log = is_some m
 allocates m (play first count) = is_some m
 
 -- the answer is that of the command, only an answered command changes what is held, and memory is wanted only where it is taken

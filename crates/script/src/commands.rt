@@ -1,12 +1,14 @@
 // The commands of a script, and how a line is read into one.
 ghost use Rattle.std.specs.Prelude.{◌≡◌, ◌==◌, false, [], length, vec_items, IsTrue, Some};
 ghost use Rattle.std.specs.Option.{ok_or, option_map};
-ghost use Rattle.script.specs.Commands.{set_apart, said, echo, kind_of, kind_name, most, memory_of, word_of, scan_of, numbers_behind, journal_of, records_of, play_of, spelled, reading, takes_list, asks_for_list};
+ghost use Rattle.script.specs.Commands.{set_apart, said, echo, kind_of, kind_name, most, machine_of, memory_of, word_of, scan_of, split_of, numbers_behind, journal_of, records_of, play_of, spelled, reading, takes_list, asks_for_list};
 ghost use Rattle.text.specs.Lines.{after_word, first_word, words_of};
 ghost use Rattle.text.specs.Outcomes.{Gives, wants_memory};
 ghost use Rattle.text.specs.Texts.{hexadecimal};
 ghost use Rattle.text.specs.declared.outcomes.Unread.TheVariants.{Unreadable};
 
+use crate::calls::{Asked, call_named};
+use crate::operands::{ends, next_word, one_word, place_and_word, two_numbers};
 use std::alloc::Global;
 use std::fmt;
 use text::lines::{Words, command_part, line_text};
@@ -64,9 +66,14 @@ impl fmt::Display for ListKind {
 pub enum Command {
     Memory { kind: ListKind, size: u64 },
     Word { frame: u64, index: u64, value: u64 },
+    Machine { first: u64, count: u64 },
+    Call(Asked),
     Scan { bytes: Vec<u8> },
+    Split { address: u64 },
     Journal { words: Vec<u64> },
     Records,
+    // Play with the log figures of the machine.
+    PlayLog,
     Play { first: u64, count: u64 },
 }
 
@@ -97,9 +104,13 @@ impl fmt::Display for Command {
                 index,
                 value,
             } => write!(f, "word {frame} {index} {}", Hexadecimal(*value)),
+            Command::Machine { first, count } => write!(f, "machine {first} {count}"),
+            Command::Call(asked) => write!(f, "{asked}"),
             Command::Scan { bytes } => write!(f, "scan {}", HexBytes(bytes.as_slice())),
+            Command::Split { address } => write!(f, "split {}", Hexadecimal(*address)),
             Command::Journal { words } => write!(f, "journal{}", HexWords(words.as_slice())),
             Command::Records => write!(f, "records"),
+            Command::PlayLog => write!(f, "play"),
             Command::Play { first, count } => write!(f, "play {first} {count}"),
         }
     }
@@ -110,29 +121,17 @@ const MEMORY: &[u8] = b"memory";
 
 const WORD: &[u8] = b"word";
 
+const MACHINE: &[u8] = b"machine";
+
 const SCAN: &[u8] = b"scan";
+
+const SPLIT: &[u8] = b"split";
 
 const JOURNAL: &[u8] = b"journal";
 
 const RECORDS: &[u8] = b"records";
 
 const PLAY: &[u8] = b"play";
-
-// The next word of a text; empty where there is none.
-fn next_word<'a>(words: &mut Words<'a>) -> &'a [u8]
-    ensures is { result.now ≡ first_word words.old }
-    ensures after { words.new ≡ after_word words.old }
-{
-    words.next().unwrap_or(b"")
-}
-
-// Whether no word is left.
-fn ends(words: &mut Words<'_>) -> bool
-    ensures is { result ≡ (length (first_word words.old) == 0) }
-    ensures after { words.new ≡ after_word words.old }
-{
-    words.next().is_none()
-}
 
 // memory words N, memory bytes N: the words behind the first
 #[tactic(auto, unfolding(crate::specs::Commands::memory_of, text::specs::Lines::after_words))]
@@ -149,22 +148,23 @@ fn memory_command(words: &mut Words<'_>) -> Result<Command, Unread>
 }
 
 // word FRAME INDEX WORD: the words behind the first
-#[tactic(auto, unfolding(crate::specs::Commands::word_of, text::specs::Lines::after_words))]
-fn word_command(words: &mut Words<'_>) -> Result<Command, Unread>
-    ensures wants { wants_memory result ≡ false }
-    ensures gives { Gives said result (word_of words.old) }
+fn word_command(words: &mut Words<'_>) -> Option<Command>
+    ensures { option_map said result ≡ word_of words.old }
 {
-    let frame = decimal(next_word(words)).ok_or(Unread::Unreadable)?;
-    let index = decimal(next_word(words)).ok_or(Unread::Unreadable)?;
-    let value = hexadecimal(next_word(words)).ok_or(Unread::Unreadable)?;
-    if ends(words) {
-        return Ok(Command::Word {
-            frame,
-            index,
-            value,
-        });
-    }
-    Err(Unread::Unreadable)
+    let (frame, index, value) = place_and_word(words)?;
+    Some(Command::Word {
+        frame,
+        index,
+        value,
+    })
+}
+
+// machine FIRST COUNT: the words behind the first
+fn machine_command(words: &mut Words<'_>) -> Option<Command>
+    ensures { option_map said result ≡ machine_of words.old }
+{
+    let (first, count) = two_numbers(words)?;
+    Some(Command::Machine { first, count })
 }
 
 // scan BYTES: the words behind the first
@@ -177,6 +177,14 @@ fn scan_command(heap: Global, words: &mut Words<'_>) -> Result<Command, Unread>
         return Ok(Command::Scan { bytes });
     }
     Err(Unread::Unreadable)
+}
+
+// split ADDRESS: the word behind the first
+fn split_command(words: &mut Words<'_>) -> Option<Command>
+    ensures { option_map said result ≡ split_of words.old }
+{
+    let address = one_word(words)?;
+    Some(Command::Split { address })
 }
 
 // The numbers that words write in hexadecimal.
@@ -215,18 +223,17 @@ fn records_command(words: &mut Words<'_>) -> Result<Command, Unread>
     Err(Unread::Unreadable)
 }
 
-// play FIRST COUNT: the words behind the first
+// play FIRST COUNT, or play alone: the words behind the first
 #[tactic(auto, unfolding(crate::specs::Commands::play_of, text::specs::Lines::after_words))]
-fn play_command(words: &mut Words<'_>) -> Result<Command, Unread>
-    ensures wants { wants_memory result ≡ false }
-    ensures gives { Gives said result (play_of words.old) }
+fn play_command(words: &mut Words<'_>) -> Option<Command>
+    ensures { option_map said result ≡ play_of words.old }
 {
-    let first = decimal(next_word(words)).ok_or(Unread::Unreadable)?;
-    let count = decimal(next_word(words)).ok_or(Unread::Unreadable)?;
-    if ends(words) {
-        return Ok(Command::Play { first, count });
-    }
-    Err(Unread::Unreadable)
+    let Some(first) = words.next() else {
+        return Some(Command::PlayLog);
+    };
+    let first = decimal(first)?;
+    let count = decimal(next_word(words))?;
+    ends(words).then_some(Command::Play { first, count })
 }
 
 // The command of that name, with the words behind it. The names are compared one by one: of a `match` on them the way
@@ -239,10 +246,16 @@ fn named(heap: Global, name: &[u8], words: &mut Words<'_>) -> Result<Command, Un
         return memory_command(words);
     }
     if name == WORD {
-        return word_command(words);
+        return word_command(words).ok_or(Unread::Unreadable);
+    }
+    if name == MACHINE {
+        return machine_command(words).ok_or(Unread::Unreadable);
     }
     if name == SCAN {
         return scan_command(heap, words);
+    }
+    if name == SPLIT {
+        return split_command(words).ok_or(Unread::Unreadable);
     }
     if name == JOURNAL {
         return journal_command(heap, words);
@@ -251,9 +264,10 @@ fn named(heap: Global, name: &[u8], words: &mut Words<'_>) -> Result<Command, Un
         return records_command(words);
     }
     if name == PLAY {
-        return play_command(words);
+        return play_command(words).ok_or(Unread::Unreadable);
     }
-    Err(Unread::Unreadable)
+    let call = call_named(heap, name, words)?;
+    Ok(Command::Call(call))
 }
 
 // Reads a line, with or without its line end. A line that holds no word before its comment asks for nothing.

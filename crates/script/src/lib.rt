@@ -2,8 +2,11 @@
 
 #![tactic(auto)]
 
+pub mod calls;
 pub mod commands;
 pub mod listings;
+mod machines;
+mod operands;
 pub mod pictures;
 pub mod replies;
 pub mod session;

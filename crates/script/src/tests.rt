@@ -110,3 +110,85 @@ fn a_journal(rt: HostRuntime) -> Result<(), Fail> {
     }
     Ok(())
 }
+
+#[test]
+fn a_machine(rt: HostRuntime) -> Result<(), Fail> {
+    let heap = rt.alloc();
+    let script: [(&[u8], &[u8]); 24] = [
+        (b"machine 7 1\n", b"line 1: cannot read: machine 7 1\n"),
+        (b"load 0\n", b"line 2: cannot read: load 0\n"),
+        (b"memory bytes 32768\n", b"memory bytes 32768: 8 frames\n"),
+        (b"load 0\n", b"line 4: cannot read: load 0\n"),
+        (b"play\n", b"line 5: cannot read: play\n"),
+        (b"word 5 1 ff\n", b"word 5 1 FF: ok\n"),
+        (b"machine 07 1\n", b"machine 7 1: made\n"),
+        (b"machine 7 1\n", b"line 8: cannot read: machine 7 1\n"),
+        (b"word 5 1 0\n", b"line 9: cannot read: word 5 1 0\n"),
+        (b"declare 1 4\n", b"declare 1 4: ok\n"),
+        (b"retire 1\n", b"retire 1: ok\n"),
+        (b"take 0 2 01\n", b"take 0 2 1: ok\n"),
+        (b"write 0 0 aB\n", b"write 0 0 AB: ok\n"),
+        (b"write 0 0 aB\n", b"write 0 0 AB: refused 29\n"),
+        (b"write 0 1 a\n", b"line 15: cannot read: write 0 1 a\n"),
+        (b"release 0\n", b"release 0: ok\n"),
+        (b"accept 5\n", b"accept 5: ok\n"),
+        (b"unaccept 5\n", b"unaccept 5: ok\n"),
+        (b"cr0 80010011\n", b"cr0 80010011: ok\n"),
+        (b"cr3 5000\n", b"cr3 5000: refused 23\n"),
+        (b"cr4 20\n", b"cr4 20: refused 24\n"),
+        (b"efer 0801\n", b"efer 801: refused 24\n"),
+        (
+            b"split 7ffffffffff8\n",
+            b"split 7FFFFFFFFFF8: 255 511 511 511 4088\n",
+        ),
+        (
+            b"play\n",
+            b"play: 0 records played\n  kinds 0 0 0 0 0 0 0 7\n",
+        ),
+    ];
+    let mut session = Session::new();
+    for (number, (line, printed)) in (1..).zip(script) {
+        let mut reply = Vec::new(heap);
+        session.line(heap, number, line, &mut reply)?;
+        assert!(rt; reply.as_slice() == printed, "{}", number);
+    }
+    Ok(())
+}
+
+#[test]
+fn a_path(rt: HostRuntime) -> Result<(), Fail> {
+    let heap = rt.alloc();
+    let script: [(&[u8], &[u8]); 15] = [
+        (b"memory words 4096\n", b"memory words 4096: 8 frames\n"),
+        (b"machine 7 1\n", b"machine 7 1: made\n"),
+        (b"fetch 0\n", b"fetch 0: refused 42\n"),
+        (b"declare 1 4\n", b"declare 1 4: ok\n"),
+        (b"declare 2 3\n", b"declare 2 3: ok\n"),
+        (b"declare 3 2\n", b"declare 3 2: ok\n"),
+        (b"declare 4 1\n", b"declare 4 1: ok\n"),
+        (b"set 1 511 2003\n", b"set 1 511 2003: ok\n"),
+        (b"cr3 1fff\n", b"cr3 1FFF: ok\n"),
+        (
+            b"load ffffffffffffff00\n",
+            b"load FFFFFFFFFFFFFF00: refused 43 at level 3 in table 2\n",
+        ),
+        (b"set 2 511 3003\n", b"set 2 511 3003: ok\n"),
+        (b"set 3 511 4003\n", b"set 3 511 4003: ok\n"),
+        (
+            b"set 4 511 8000000000005003\n",
+            b"set 4 511 8000000000005003: ok\n",
+        ),
+        (
+            b"store ffffffffffffff00 AB\n",
+            b"store FFFFFFFFFFFFFF00 AB: ok\n",
+        ),
+        (b"load ffffffffffffff00\n", b"load FFFFFFFFFFFFFF00: AB\n"),
+    ];
+    let mut session = Session::new();
+    for (number, (line, printed)) in (1..).zip(script) {
+        let mut reply = Vec::new(heap);
+        session.line(heap, number, line, &mut reply)?;
+        assert!(rt; reply.as_slice() == printed, "{}", number);
+    }
+    Ok(())
+}
