@@ -4,3 +4,4 @@ pub mod Puttings
 pub mod Scanning
 pub mod Packings
 pub mod Laying
+pub mod Copying

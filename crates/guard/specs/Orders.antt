@@ -2,7 +2,7 @@
 --
 --   kind_of                  the kind of a frame
 --   is_frame, is_level, unwritable, is_index, is_one_lower, writes_plain, executes_code, is_not_root, unnamed_at, unnamed_above, is_governed,
---   is_region_length, is_write_length, frames_exist, unexecutable   the questions that stand in no other file, each with its number: tests of the state and of the call's figures
+--   is_region_length, is_write_length, frames_exist, unexecutable, has_place   the questions that stand in no other file, each with its number: tests of the state and of the call's figures
 --   entry_questions          how the order of a set ends
 --   questions                the order of each call
 use Rattle.std.specs.Prelude.{ℕ, ◌+◌, Bool, true, false, cond, not, ◌&&◌, ◌||◌, ◌==◌, List, [], ◌∷◌, length, nat_le, nat_lt, Some, None, Option, is_some, slice_get}
@@ -18,7 +18,7 @@ use Rattle.paging.specs.Entries.{frame_of, large, no_execute, present, writable}
 use Rattle.paging.specs.Questions.{access_questions}
 use Rattle.paging.specs.declared.faults.Access.TheVariants as access
 use Rattle.policy.specs.Policies.{Meaning, permitted}
-use Rattle.guard.specs.Calls.{Request, declare, set, retire, take, write, release, accept, unaccept, load_register, load_root, load, store, fetch}
+use Rattle.guard.specs.Calls.{Request, declare, set, retire, take, write, release, accept, unaccept, load_register, load_root, load, store, fetch, drain}
 use Rattle.guard.specs.Guarding.{Guarded, has_room}
 use Rattle.guard.specs.Registers.{starting}
 use Rattle.guard.specs.Scans.{is_table_of, no_entry, scanned}
@@ -90,6 +90,10 @@ frames_exist g first n = nat_le (first + n) (length g.picture.kinds)
 -- 32: no level-1 table anywhere holds an executable entry that names the frame.
 abbrev pub unexecutable : Guarded → ℕ → Bool
 unexecutable g frame = no_entry g.picture One (Executable frame)
+
+-- 34: a list of that length has room for the words that are held.
+abbrev pub has_place : Guarded → ℕ → Bool
+has_place g room = nat_le g.held room
 
 -- How the order of a set ends: for a present entry in a table of level 1, for one in any other table, and for an entry that is not present.
 abbrev pub entry_questions : Guarded → Option FrameKind → ℕ → List Question
@@ -185,3 +189,7 @@ questions means (load_root value) s =
 questions means (load address) s = (1, s.sound) ∷ access_questions s.guarded.picture.words s.root address access.Load
 questions means (store address value) s = (1, s.sound) ∷ access_questions s.guarded.picture.words s.root address access.Store
 questions means (fetch address) s = (1, s.sound) ∷ access_questions s.guarded.picture.words s.root address access.Fetch
+questions means (drain room) s =
+    (1, s.sound)
+    ∷ (34, has_place s.guarded room)
+    ∷ []

@@ -33,6 +33,7 @@ refusal_number reason.Unscanned = 30
 refusal_number reason.NotCode = 31
 refusal_number reason.Executable = 32
 refusal_number reason.JournalFull = 33
+refusal_number reason.ShortList = 34
 
 -- What happened, and what to do.
 abbrev pub refusal_text : Refusal → List ℕ
@@ -61,3 +62,4 @@ refusal_text reason.Unscanned = codes "the frame's code could change the process
 refusal_text reason.NotCode = codes "the frame is not code: nothing is to be undone"
 refusal_text reason.Executable = codes "an executable entry names the frame: first set that entry with bit 63, or not present"
 refusal_text reason.JournalFull = codes "the journal has no room for the record: drain it first"
+refusal_text reason.ShortList = codes "the list is shorter than the journal: supply a longer one"

@@ -10,8 +10,7 @@
 --   frame_words     the words of a frame
 --   scanned         whether the scanner passes a frame
 --   left_to_scan    whether what a scan has seen passes with what is left
-use Rattle.std.specs.Prelude.{◌≡◌, ℕ, zero, suc, ◌+◌, ◌*◌, ◌<◌, Bool, true, false, not, ◌&&◌, ◌||◌, ◌==◌, List, ◌++◌, drop, length, map, nat_le, nat_lt, slice_index, Option, Some, ◌↔◌, IsTrue, slice_get}
-use Rattle.std.specs.List.{range_with_len}
+use Rattle.std.specs.Prelude.{◌≡◌, ℕ, zero, suc, ◌+◌, ◌*◌, ◌<◌, Bool, true, false, not, ◌&&◌, ◌||◌, ◌==◌, List, ◌++◌, drop, length, nat_le, nat_lt, Option, Some, ◌↔◌, IsTrue, slice_get}
 use Rattle.scanner.specs.Rule.{bytes_of_words, passing}
 use Rattle.scanner.specs.States.{seen}
 use Rattle.scanner.specs.declared.scan.State.{State}
@@ -21,6 +20,7 @@ use Rattle.journal.specs.declared.kinds.FrameKind.{FrameKind}
 use Rattle.journal.specs.declared.kinds.FrameKind.TheVariants as kind
 use Rattle.journal.specs.declared.kinds.Level.{Level}
 use Rattle.paging.specs.Entries.{entry_at, frame_of, no_execute, present, writable}
+use Rattle.guard.specs.Guarding.{words_from}
 use Rattle.guard.specs.declared.scans.Sought.{Sought}
 use Rattle.guard.specs.declared.scans.Sought.TheVariants.{Writable, Executable, Present}
 
@@ -62,7 +62,7 @@ EntryByEntry = (p : Picture) (level : Level) (sought : Sought) → IsTrue (no_en
 
 -- The 512 words of a frame.
 abbrev pub frame_words : List ℕ → ℕ → List ℕ
-frame_words words frame = map (slice_index words) (range_with_len (512 * frame) 512)
+frame_words words frame = words_from words (512 * frame) 512
 
 -- The scanner passes a frame: all of its 4,096 bytes, as one run.
 unfoldable pub scanned : List ℕ → ℕ → Bool

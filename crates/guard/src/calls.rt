@@ -1,7 +1,7 @@
 // Calls on a machine, and their answers, as values.
 
 ghost use Rattle.std.specs.Prelude.{◌≡◌};
-ghost use Rattle.guard.specs.Calls.{done_or_faulted, done_or_refused, word_or_faulted};
+ghost use Rattle.guard.specs.Calls.{done_or_faulted, done_or_refused, drained_or_refused, word_or_faulted};
 
 use crate::refusals::Refusal;
 use crate::registers::Register;
@@ -80,6 +80,8 @@ pub enum Answer {
     Done,
     // It was accepted, and answers this word.
     Word(u64),
+    // It was a drain that was accepted, and copied out so many words.
+    Drained(u64),
     // It was refused.
     Refused(Refusal),
     // It was an access that was refused.
@@ -93,6 +95,17 @@ impl From<Result<(), Refusal>> for Answer {
         match outcome {
             Ok(()) => Answer::Done,
             Err(refusal) => Answer::Refused(refusal),
+        }
+    }
+}
+
+impl From<Result<u64, Refusal>> for Answer {
+    ghost from_gives = { λ outcome answer. answer ≡ drained_or_refused outcome };
+
+    fn from(outcome: Result<u64, Refusal>) -> Answer {
+        match outcome {
+            Ok(count) => Answer::Drained(count),
+            Err(short) => Answer::Refused(short),
         }
     }
 }

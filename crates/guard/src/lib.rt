@@ -5,6 +5,7 @@
 mod accesses;
 pub mod calls;
 mod changes;
+mod drains;
 pub mod guarded;
 pub mod packed;
 mod questions;

@@ -59,6 +59,8 @@ pub enum Refusal {
     Executable,
     // The journal has no room for the record.
     JournalFull,
+    // The list is shorter than the journal.
+    ShortList,
 }
 
 // The number of a no.
@@ -92,6 +94,7 @@ impl From<Refusal> for u8 {
             Refusal::NotCode => 31,
             Refusal::Executable => 32,
             Refusal::JournalFull => 33,
+            Refusal::ShortList => 34,
         }
     }
 }
@@ -139,6 +142,7 @@ impl fmt::Display for Refusal {
             Refusal::Executable =>
                 "an executable entry names the frame: first set that entry with bit 63, or not present",
             Refusal::JournalFull => "the journal has no room for the record: drain it first",
+            Refusal::ShortList => "the list is shorter than the journal: supply a longer one",
         })
     }
 }

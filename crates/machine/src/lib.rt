@@ -3,5 +3,4 @@
 #![tactic(auto)]
 
 pub mod machine;
-#[cfg(test)]
-mod tests;
+pub mod run;

@@ -1,12 +1,14 @@
 // A machine, and what each call does with it.
 
-ghost use Rattle.std.specs.Prelude.{◌≡◌, cond, nat_lt, Err, Ok};
+ghost use Rattle.std.specs.Prelude.{◌≡◌, ◌*◌, IsTrue, true, cond, length, nat_lt, Err, Ok};
 ghost use Rattle.guard.specs.Guarding.{guarded_of};
 ghost use Rattle.guard.specs.Orders.{is_frame};
 ghost use Rattle.guard.specs.declared.refusals.Refusal.TheVariants.{BadFigures, NoFrame, Ungoverned};
-ghost use Rattle.guard.specs.Calls.{declare, set, retire, take, write, release, accept, unaccept, load_register, load_root, load, store, fetch, done_or_faulted, done_or_refused, word_or_faulted, request_of};
-ghost use Rattle.guard.specs.States.{new_state};
-ghost use Rattle.guard.specs.Steps.{Step};
+ghost use Rattle.guard.specs.Calls.{declare, set, retire, take, write, release, accept, unaccept, load_register, load_root, load, store, fetch, drain, done_or_faulted, done_or_refused, drained_or_refused, word_or_faulted, request_of};
+ghost use Rattle.guard.specs.States.{good, new_state};
+ghost use Rattle.guard.specs.Steps.{Step, piece, with_piece};
+ghost use Rattle.guarantee.specs.Guarantee.{Guaranteed, bytes_of_write};
+ghost use Rattle.journal.specs.Bytes.{are_bytes};
 ghost use Rattle.machine.specs.Machines.{state_of};
 
 use guard::calls::{Answer, Call};
@@ -35,9 +37,10 @@ pub struct Machine<M, P> {
 }
 
 impl<M: Memory, P: Policy> Machine<M, P> {
-    // A machine over a memory, with so many log frames from a first one on.
-    pub fn new(memory: M, policy: P, first: u64, count: u64) -> Machine<M, P>
-        ensures { state_of M.words result ≡ new_state (M.words memory) (M.size memory) first count policy }
+    // Such a machine; that it is one is all that is said of it.
+    fn made(memory: M, policy: P, first: u64, count: u64) -> Machine<M, P>
+        ensures whole { length (M.words memory) ≡ 512 * M.size memory }
+        ensures is { state_of M.words result ≡ new_state (M.words memory) (M.size memory) first count policy }
     {
         let frames = memory.frames();
         let figures = LogFigures {
@@ -58,6 +61,14 @@ impl<M: Memory, P: Policy> Machine<M, P> {
             registers: Registers::new(),
             policy,
         }
+    }
+
+    // A machine over a memory, with so many log frames from a first one on. On good figures the guarantee holds of every run from here.
+    pub fn new(memory: M, policy: P, first: u64, count: u64) -> Machine<M, P>
+        ensures is { state_of M.words result ≡ new_state (M.words memory) (M.size memory) first count policy }
+        ensures guarantee { IsTrue (good (M.size memory) first count) → Guaranteed P.means (state_of M.words result) }
+    {
+        Machine::made(memory, policy, first, count)
     }
 
     // The frame of that number (10), on a machine that was made on good figures (1).
@@ -90,15 +101,18 @@ impl<M: Memory, P: Policy> Machine<M, P> {
     pub fn declare(&mut self, frame: u64, level: u64) -> Result<(), Refusal>
         ensures { Step P.means (declare frame level) (done_or_refused result) (state_of M.words self.old) (state_of M.words self.new) }
     {
-        let frame = self.frame(frame)?;
+        let table = self.frame(frame)?;
         let level = Level::new(level).ok_or(Refusal::NoLevel)?;
-        if self.guarded.kind(u64::from(frame)) != Some(FrameKind::Plain) {
+        if self.guarded.kind(u64::from(table)) != Some(FrameKind::Plain) {
             return Err(Refusal::NotPlain);
         }
-        if !self.guarded.is_unwritable(u64::from(frame), 1) {
+        if !self.guarded.is_unwritable(u64::from(table), 1) {
             return Err(Refusal::Writable);
         }
-        self.guarded.enact(&Record::Declared { frame, level })
+        self.guarded.enact(&Record::Declared {
+            frame: table,
+            level,
+        })
     }
 
     // An entry is put into a table.
@@ -191,8 +205,10 @@ impl<M: Memory, P: Policy> Machine<M, P> {
     }
 
     // Bytes are copied into a region, and the policy is told once the journal has room for the record.
+    #[tactic(auto, using(guard::proofs::Packings::all_bytes))]
     pub fn write(&mut self, region: u64, offset: u64, bytes: &[u8]) -> Result<(), Refusal>
-        ensures { Step P.means (write region offset bytes.now) (done_or_refused result) (state_of M.words self.old) (state_of M.words self.new) }
+        ensures bytes { are_bytes bytes.now ≡ true }
+        ensures step { Step P.means (write region offset bytes.now) (done_or_refused result) (state_of M.words self.old) (state_of M.words self.new) }
     {
         let region = self.region(region)?;
         let Some(RegionState::Live { length: size, .. }) = self.guarded.region(u64::from(region))
@@ -312,9 +328,21 @@ impl<M: Memory, P: Policy> Machine<M, P> {
         self.guarded.word_reached(self.root, address, Access::Fetch)
     }
 
+    // The words of the journal that are held are copied to the front of a list, and the journal holds none; or the list is too short (34), and nothing is changed.
+    pub fn drain(&mut self, list: &mut [u64]) -> Result<u64, Refusal>
+        ensures step { Step P.means (drain (length list.old)) (drained_or_refused result) (state_of M.words self.old) (state_of M.words self.new) }
+        ensures list { list.new ≡ with_piece (piece (drain (length list.old)) (drained_or_refused result) (state_of M.words self.old)) list.old }
+    {
+        if !self.sound {
+            return Err(Refusal::BadFigures);
+        }
+        self.guarded.drain(list)
+    }
+
     // Carries out a call.
     pub fn perform(&mut self, call: Call<'_>) -> Answer
-        ensures { Step P.means (request_of call.entry) result (state_of M.words self.old) (state_of M.words self.new) }
+        ensures bytes { are_bytes (bytes_of_write (request_of call.entry)) ≡ true }
+        ensures step { Step P.means (request_of call.entry) result (state_of M.words self.old) (state_of M.words self.new) }
     {
         match call {
             Call::Declare { frame, level } => self.declare(frame, level).into(),

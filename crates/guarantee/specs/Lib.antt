@@ -1,0 +1,2 @@
+-- What the contracts of the machine promise of every list of calls.
+pub mod Guarantee

@@ -1,0 +1,2 @@
+-- Lemmas that functions of this crate name.
+pub mod Running
