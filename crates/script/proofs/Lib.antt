@@ -4,3 +4,4 @@ pub mod Places
 pub mod Frames
 pub mod Told
 pub mod NewPolicies
+pub mod Copied

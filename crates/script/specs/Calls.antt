@@ -1,4 +1,4 @@
--- The calls that a script can ask for, which line spells which, and how a call is printed.
+-- The calls that a script can ask for, which line spells which, and how a call is printed. A drain is a command of its own.
 --
 --   asked           the request that a line asks for
 --   asked_of        the request that a name and the words behind it spell
@@ -6,7 +6,7 @@
 use Rattle.std.specs.Prelude.{ℕ, cond, List, ◌++◌, Some, None, vec_items, codes, decimal, Option}
 use Rattle.std.specs.Option.{option_and_then, option_map}
 use Rattle.std.specs.Str.{bytes_eq}
-use Rattle.guard.specs.Calls.{Request, declare, set, retire, take, write, release, accept, unaccept, load_register, load_root, load, store, fetch, request_of}
+use Rattle.guard.specs.Calls.{Request, declare, set, retire, take, write, release, accept, unaccept, load_register, load_root, load, store, fetch, drain, request_of}
 use Rattle.guard.specs.declared.registers.Register.{Register}
 use Rattle.guard.specs.declared.registers.Register.TheVariants.{Cr0, Cr4, Efer}
 use Rattle.text.specs.Lines.{word_at}
@@ -76,3 +76,4 @@ request_text (load_root value) = codes "cr3 " ++ hexadecimal value
 request_text (load address) = codes "load " ++ hexadecimal address
 request_text (store address value) = codes "store " ++ (hexadecimal address ++ (codes " " ++ hexadecimal value))
 request_text (fetch address) = codes "fetch " ++ hexadecimal address
+request_text (drain room) = codes "drain " ++ decimal room

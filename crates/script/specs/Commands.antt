@@ -16,7 +16,7 @@ use Rattle.script.specs.declared.commands.ListKind.TheVariants.{Words, Bytes}
 use Rattle.text.specs.Lines.{line_text, command_part, after_word, word_at, words_of}
 use Rattle.text.specs.Numbers.{number_of, bytes_of}
 use Rattle.text.specs.Texts.{hexadecimal, hex_bytes}
-use Rattle.guard.specs.Calls.{Request}
+use Rattle.guard.specs.Calls.{Request, drain}
 use Rattle.script.specs.Calls.{asked, asked_of, request_text}
 use Rattle.script.specs.Operands.{decimal_at, ends_before, one_word, only, place_and_word, two_numbers}
 
@@ -39,6 +39,7 @@ said (command.Memory kind size) = memory kind size
 said (command.Word frame index value) = word frame index value
 said (command.Machine first count) = machine first count
 said (command.Call c) = call (asked c)
+said (command.Drain room) = call (drain room)
 said (command.Scan bytes) = scan (vec_items bytes)
 said (command.Split address) = split address
 said (command.Journal words) = journal (vec_items words)
@@ -89,6 +90,10 @@ word_of t = option_map (λ p. word p.0 p.1 p.2) (place_and_word t)
 abbrev pub machine_of : List ℕ → Option Said
 machine_of t = option_map (λ p. machine p.0 p.1) (two_numbers t)
 
+-- drain LENGTH, which is that of the list that is supplied for the words
+unfoldable pub drain_of : List ℕ → Option Said
+drain_of t = option_and_then (λ n. cond (nat_le n (most Words)) (only t 1 (call (drain n))) None) (decimal_at t 0)
+
 -- scan BYTES
 unfoldable pub scan_of : List ℕ → Option Said
 scan_of t = option_and_then (λ bs. only t 1 (scan bs)) (bytes_of (word_at t 0))
@@ -124,12 +129,13 @@ spelled name t =
     cond (bytes_eq name (codes "memory")) (memory_of t)
     (cond (bytes_eq name (codes "word")) (word_of t)
     (cond (bytes_eq name (codes "machine")) (machine_of t)
+    (cond (bytes_eq name (codes "drain")) (drain_of t)
     (cond (bytes_eq name (codes "scan")) (scan_of t)
     (cond (bytes_eq name (codes "split")) (split_of t)
     (cond (bytes_eq name (codes "journal")) (journal_of t)
     (cond (bytes_eq name (codes "records")) (records_of t)
     (cond (bytes_eq name (codes "play")) (play_of t)
-    (option_map call (asked_of name t)))))))))
+    (option_map call (asked_of name t))))))))))
 
 -- a text is a command by its first word and those behind it
 abbrev pub command_of : List ℕ → Option Said

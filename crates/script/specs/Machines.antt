@@ -2,15 +2,17 @@
 --
 --   Policies, policies, new_policies    the policies side by side, what they mean, and new ones
 --   log_figures, new_machine            the figures of a machine, and a new one
---   call_number, call_stop, call_word   what is told of a call: the number of its refusal, where its walk ended, and its word
+--   call_number, call_stop, call_word   what is told of a call: the number of its refusal, where its walk ended, its word,
+--   call_count, to_copy, call_words     how many words it copied out, and which
 --   call_after                          what a call makes of the machine
---   call_text                           what is printed of these three
+--   call_text, copied_text              what is printed of the first four, and of the words
 --   made_text, parts_text               and of making a machine, and of the parts of an address
-use Rattle.std.specs.Prelude.{ℕ, ◌/◌, true, cond, List, ◌++◌, length, replicate, Some, None, codes, decimal, Option}
-use Rattle.guard.specs.Calls.{Request}
+use Rattle.std.specs.Prelude.{ℕ, ◌/◌, true, cond, List, [], ◌++◌, ◌==◌, length, replicate, Some, None, codes, decimal, Option}
+use Rattle.guard.specs.Calls.{Request, drain}
+use Rattle.guard.specs.Guarding.{held_words}
 use Rattle.guard.specs.Orders.{questions}
 use Rattle.guard.specs.States.{State, new_state}
-use Rattle.guard.specs.Steps.{effect, is_accepted, read, stopped}
+use Rattle.guard.specs.Steps.{counted, effect, is_accepted, read, stopped}
 use Rattle.journal.specs.Kinds.{level_number}
 use Rattle.journal.specs.Questions.{first_no}
 use Rattle.journal.specs.declared.figures.LogFigures.{LogFigures}
@@ -23,6 +25,7 @@ use Rattle.policy.specs.declared.append_only.AppendOnly.{AppendOnly}
 use Rattle.policy.specs.declared.free.Free.{Free}
 use Rattle.policy.specs.declared.write_once.WriteOnce.{WriteOnce}
 use Rattle.text.specs.Texts.{hexadecimal}
+use Rattle.script.specs.Commands.{set_apart}
 
 -- write-once, append-only and free, side by side
 abbrev pub Policies : Type 0
@@ -60,6 +63,19 @@ call_stop q s = stopped q s
 unfoldable pub call_word : Request → State Policies → Option ℕ
 call_word q s = cond (is_accepted policies q s) (read q s) None
 
+-- how many words an accepted drain copies out
+unfoldable pub call_count : Request → State Policies → Option ℕ
+call_count q s = cond (is_accepted policies q s) (counted q s) None
+
+-- the words that a drain is to copy out: all that are held; no other call copies any
+abbrev pub to_copy : Request → State Policies → List ℕ
+to_copy (drain room) s = held_words s.guarded
+to_copy other s = []
+
+-- the words that a call copies out: a refused one copies none
+unfoldable pub call_words : Request → State Policies → List ℕ
+call_words q s = cond (is_accepted policies q s) (to_copy q s) []
+
 -- the machine after a call: a refused one changes nothing
 unfoldable pub call_after : Request → State Policies → State Policies
 call_after q s = cond (is_accepted policies q s) (effect policies q s) s
@@ -68,12 +84,18 @@ call_after q s = cond (is_accepted policies q s) (effect policies q s) s
 abbrev pub refused_text : ℕ → List ℕ
 refused_text number = codes "refused " ++ decimal number
 
--- what is printed of a call: its word, or `ok` where it has none; or the number of its refusal, with the place where a walk ended
-abbrev pub call_text : Option ℕ → Option Stopped → Option ℕ → List ℕ
-call_text None place None = codes "ok"
-call_text None place (Some word) = hexadecimal word
-call_text (Some number) None word = refused_text number
-call_text (Some number) (Some s) word = codes "refused " ++ (decimal number ++ (codes " at level " ++ (decimal (level_number s.fault.level) ++ (codes " in table " ++ decimal s.fault.table))))
+-- what is printed of a call: its word, how many words it copied out, or `ok` where it has neither; or the number of its refusal, with the place where
+-- a walk ended
+abbrev pub call_text : Option ℕ → Option Stopped → Option ℕ → Option ℕ → List ℕ
+call_text None place None None = codes "ok"
+call_text None place None (Some count) = decimal count ++ codes " words"
+call_text None place (Some word) count = hexadecimal word
+call_text (Some number) None word count = refused_text number
+call_text (Some number) (Some s) word count = codes "refused " ++ (decimal number ++ (codes " at level " ++ (decimal (level_number s.fault.level) ++ (codes " in table " ++ decimal s.fault.table))))
+
+-- and of the words that were copied out: where there are any, a line of them below, indented by two blanks
+abbrev pub copied_text : List ℕ → List ℕ
+copied_text ws = cond (length ws == 0) [] (codes "\n " ++ set_apart hexadecimal ws)
 
 -- and of making a machine, by the figures' question that has a no
 abbrev pub made_text : Option ℕ → List ℕ

@@ -5,7 +5,12 @@
 --   Told, told      what an answer says
 --   answer_text     an answer as it is printed
 --   answer_of       the answer to a command; none where it cannot be read at this point
+--   copied_by       the words that a call copies out
+--   after_call      what is held after a call
 --   held_after      what is held after a command that was answered
+--   is_drain        whether a call is a drain
+--   is_machined, has_machine   whether there is a machine
+--   allocates       whether carrying out a command takes memory
 --   Carries         that a call answered a command, and left the session as it should
 use Rattle.std.specs.Prelude.{◌≡◌, ℕ, ◌+◌, ◌*◌, Bool, true, false, cond, ◌&&◌, List, [], ◌++◌, length, replicate, is_ok, is_some, Some, None, codes, decimal, Option, Result, nat_lt, slice_set, vec_items}
 use Rattle.std.specs.Option.{option_and_then, option_map}
@@ -21,7 +26,7 @@ use Rattle.script.specs.declared.session.Answer.TheVariants as answer
 use Rattle.script.specs.declared.session.Setup.{Setup}
 use Rattle.script.specs.declared.session.Stage.{Stage}
 use Rattle.script.specs.declared.session.Stage.TheVariants as stage
-use Rattle.guard.specs.Calls.{Request, number_in, stopped_in_answer, word_in}
+use Rattle.guard.specs.Calls.{Request, drain, count_in, number_in, stopped_in_answer, word_in}
 use Rattle.guard.specs.States.{State}
 use Rattle.journal.specs.Figures.{figure_number, figure_questions}
 use Rattle.journal.specs.Questions.{first_no}
@@ -30,7 +35,7 @@ use Rattle.paging.specs.Addresses.{parts_of}
 use Rattle.paging.specs.declared.faults.Stopped.{Stopped}
 use Rattle.paging.specs.declared.parts.Split.{Split}
 use Rattle.script.specs.Commands.{Said, memory, word, machine, call, scan, split, journal, records, play_log, play}
-use Rattle.script.specs.Machines.{Policies, call_after, call_number, call_stop, call_text, call_word, frames_shown, log_figures, made_text, new_machine, parts_text}
+use Rattle.script.specs.Machines.{Policies, call_after, call_count, call_number, call_stop, call_text, call_word, call_words, copied_text, frames_shown, log_figures, made_text, new_machine, parts_text}
 use Rattle.text.specs.Outcomes.{Gives, wants_memory}
 use Rattle.script.specs.Listings.{listing}
 use Rattle.script.specs.Pictures.{outcome_text, picture_text, played_text}
@@ -60,14 +65,14 @@ frames_of (supplied ws) = frames_shown ws
 frames_of (machined f s) = f.frames
 
 -- an answer as a value: so many frames or words, nothing to tell, the figures' question that has a no, what is told of a call (the number of its
--- refusal, where its walk ended, and its word), a verdict, the parts of an address, the words whose records are listed, the records that
--- were played with the words and kinds that they made, or how playing ended otherwise
+-- refusal, where its walk ended, its word, and how many words it copied out and which), a verdict, the parts of an address, the words whose
+-- records are listed, the records that were played with the words and kinds that they made, or how playing ended otherwise
 pub data Told : Type 0 where
   frames : ℕ → Told
   words : ℕ → Told
   done : Told
   making : Option ℕ → Told
-  called : Option ℕ → Option Stopped → Option ℕ → Told
+  called : Option ℕ → Option Stopped → Option ℕ → Option ℕ → List ℕ → Told
   verdict : Bool → Told
   parts : Split → Told
   listed : List ℕ → Told
@@ -80,7 +85,7 @@ told (answer.Frames n) = frames n
 told (answer.Words n) = words n
 told answer.Done = done
 told (answer.Making bad) = making (option_map figure_number bad)
-told (answer.Called a) = called (number_in a) (stopped_in_answer a) (word_in a)
+told (answer.Called a ws) = called (number_in a) (stopped_in_answer a) (word_in a) (count_in a) (vec_items ws)
 told (answer.Parts p) = parts p
 told answer.Passes = verdict true
 told answer.Fails = verdict false
@@ -94,7 +99,7 @@ answer_text (frames n) = decimal n ++ codes " frames"
 answer_text (words n) = decimal n ++ codes " words"
 answer_text done = codes "ok"
 answer_text (making number) = made_text number
-answer_text (called number place w) = call_text number place w
+answer_text (called number place w n ws) = call_text number place w n ++ copied_text ws
 answer_text (parts p) = parts_text p
 answer_text (verdict passes) = cond passes (codes "passes") (codes "fails")
 answer_text (listed ws) = listing ws
@@ -114,7 +119,7 @@ make_in (machined f s) first count = None
 -- a call needs a machine
 abbrev pub call_in : Basis → Request → Option Told
 call_in (supplied ws) q = None
-call_in (machined f s) q = Some (called (call_number q s) (call_stop q s) (call_word q s))
+call_in (machined f s) q = Some (called (call_number q s) (call_stop q s) (call_word q s) (call_count q s) (call_words q s))
 
 -- the words that are kept; none where nothing was set up
 abbrev pub kept_in : Option Held → List ℕ
@@ -175,12 +180,21 @@ with_call q (machined f s) = machined f (call_after q s)
 abbrev pub with_kept : List ℕ → Held → Held
 with_kept ws h = record { basis = h.basis; kept = h.kept ++ ws }
 
+-- the words that a call copies out of what a session stands on
+abbrev pub copied_by : Request → Basis → List ℕ
+copied_by q (supplied ws) = []
+copied_by q (machined f s) = call_words q s
+
+-- after a call: the words that it copied out are kept, behind those that were kept
+abbrev pub after_call : Request → Held → Held
+after_call q h = with_kept (copied_by q h.basis) (with_basis (with_call q) h)
+
 -- `memory`, `word`, `machine`, the calls and `journal` change what is held, and no other command does
 abbrev pub held_after : Option Held → Said → Option Held
 held_after m (memory kind size) = Some (new_memory (frames_for kind size))
 held_after m (word frame index value) = option_map (with_basis (with_word (512 * frame + index) value)) m
 held_after m (machine first count) = option_map (with_basis (with_machine first count)) m
-held_after m (call q) = option_map (with_basis (with_call q)) m
+held_after m (call q) = option_map (after_call q) m
 held_after m (scan bytes) = m
 held_after m (split address) = m
 held_after m (journal ws) = option_map (with_kept ws) m
@@ -188,18 +202,32 @@ held_after m records = m
 held_after m play_log = m
 held_after m (play first count) = m
 
--- whether carrying out a command takes memory: a new list does, and a copy of the words that are kept; and more words, or lists to play
--- on, where there is something to keep or to play them beside
+-- whether a call is a drain
+abbrev pub is_drain : Request → Bool
+is_drain (drain room) = true
+is_drain other = false
+
+-- whether there is a machine
+abbrev pub is_machined : Basis → Bool
+is_machined (supplied ws) = false
+is_machined (machined f s) = true
+
+abbrev pub has_machine : Option Held → Bool
+has_machine None = false
+has_machine (Some h) = is_machined h.basis
+
+-- whether carrying out a command takes memory: a new list does, and a copy of the words that are kept; and more words, where there is something to keep
+-- them beside; a list to drain into, where there is a machine; and lists to play on, where there is one, or where the figures are given and there is a memory
 abbrev pub allocates : Option Held → Said → Bool
 allocates m (memory kind size) = true
 allocates m (word frame index value) = false
 allocates m (machine first count) = false
-allocates m (call q) = false
+allocates m (call q) = is_drain q && has_machine m
 allocates m (scan bytes) = false
 allocates m (split address) = false
 allocates m (journal ws) = is_some m
 allocates m records = true
-allocates m play_log = is_some m
+allocates m play_log = has_machine m
 allocates m (play first count) = is_some m
 
 -- the answer is that of the command, only an answered command changes what is held, and memory is wanted only where it is taken

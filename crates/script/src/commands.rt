@@ -1,7 +1,7 @@
 // The commands of a script, and how a line is read into one.
 ghost use Rattle.std.specs.Prelude.{◌≡◌, ◌==◌, false, [], length, vec_items, IsTrue, Some};
 ghost use Rattle.std.specs.Option.{ok_or, option_map};
-ghost use Rattle.script.specs.Commands.{set_apart, said, echo, kind_of, kind_name, most, machine_of, memory_of, word_of, scan_of, split_of, numbers_behind, journal_of, records_of, play_of, spelled, reading, takes_list, asks_for_list};
+ghost use Rattle.script.specs.Commands.{set_apart, said, echo, kind_of, kind_name, most, machine_of, memory_of, word_of, drain_of, scan_of, split_of, numbers_behind, journal_of, records_of, play_of, spelled, reading, takes_list, asks_for_list};
 ghost use Rattle.text.specs.Lines.{after_word, first_word, words_of};
 ghost use Rattle.text.specs.Outcomes.{Gives, wants_memory};
 ghost use Rattle.text.specs.Texts.{hexadecimal};
@@ -68,6 +68,8 @@ pub enum Command {
     Word { frame: u64, index: u64, value: u64 },
     Machine { first: u64, count: u64 },
     Call(Asked),
+    // Drain the journal into a list of that length.
+    Drain { length: u64 },
     Scan { bytes: Vec<u8> },
     Split { address: u64 },
     Journal { words: Vec<u64> },
@@ -79,7 +81,7 @@ pub enum Command {
 
 // Words that are shown in hexadecimal, each behind a blank.
 #[derive(Clone, Copy)]
-struct HexWords<'a>(&'a [u64]);
+pub(crate) struct HexWords<'a>(pub(crate) &'a [u64]);
 
 impl fmt::Display for HexWords<'_> {
     ghost output = { λ w. Some (set_apart hexadecimal w.0.now) };
@@ -106,6 +108,7 @@ impl fmt::Display for Command {
             } => write!(f, "word {frame} {index} {}", Hexadecimal(*value)),
             Command::Machine { first, count } => write!(f, "machine {first} {count}"),
             Command::Call(asked) => write!(f, "{asked}"),
+            Command::Drain { length } => write!(f, "drain {length}"),
             Command::Scan { bytes } => write!(f, "scan {}", HexBytes(bytes.as_slice())),
             Command::Split { address } => write!(f, "split {}", Hexadecimal(*address)),
             Command::Journal { words } => write!(f, "journal{}", HexWords(words.as_slice())),
@@ -122,6 +125,8 @@ const MEMORY: &[u8] = b"memory";
 const WORD: &[u8] = b"word";
 
 const MACHINE: &[u8] = b"machine";
+
+const DRAIN: &[u8] = b"drain";
 
 const SCAN: &[u8] = b"scan";
 
@@ -165,6 +170,18 @@ fn machine_command(words: &mut Words<'_>) -> Option<Command>
 {
     let (first, count) = two_numbers(words)?;
     Some(Command::Machine { first, count })
+}
+
+// drain LENGTH: the word behind the first
+#[tactic(auto, unfolding(crate::specs::Commands::drain_of, text::specs::Lines::after_words))]
+fn drain_command(words: &mut Words<'_>) -> Option<Command>
+    ensures { option_map said result ≡ drain_of words.old }
+{
+    let length = decimal(next_word(words))?;
+    if length > ListKind::Words.longest() {
+        return None;
+    }
+    ends(words).then_some(Command::Drain { length })
 }
 
 // scan BYTES: the words behind the first
@@ -250,6 +267,9 @@ fn named(heap: Global, name: &[u8], words: &mut Words<'_>) -> Result<Command, Un
     }
     if name == MACHINE {
         return machine_command(words).ok_or(Unread::Unreadable);
+    }
+    if name == DRAIN {
+        return drain_command(words).ok_or(Unread::Unreadable);
     }
     if name == SCAN {
         return scan_command(heap, words);

@@ -11,5 +11,3 @@ pub mod pictures;
 pub mod replies;
 pub mod session;
 pub mod supplied;
-#[cfg(test)]
-mod tests;

@@ -1,12 +1,13 @@
 // The machine that a script makes, and what is printed of it.
-ghost use Rattle.std.specs.Prelude.{◌≡◌, ◌≤◌, Some};
+ghost use Rattle.std.specs.Prelude.{◌≡◌, ◌≤◌, [], vec_len, Some};
 ghost use Rattle.std.specs.Option.{option_map};
-ghost use Rattle.guard.specs.Calls.{number_in, request_of, stopped_in_answer, word_in};
+ghost use Rattle.guard.specs.Calls.{count_in, drain, number_in, request_of, stopped_in_answer, word_in};
 ghost use Rattle.machine.specs.Machines.{state_of};
-ghost use Rattle.script.specs.Machines.{call_after, call_number, call_stop, call_text, call_word, frames_shown, log_figures, made_text, new_machine, new_policies, parts_text};
+ghost use Rattle.script.specs.Machines.{call_after, call_count, call_number, call_stop, call_text, call_word, call_words, copied_text, frames_shown, log_figures, made_text, new_machine, new_policies, parts_text};
 ghost use Rattle.script.specs.Supplies.{supplied_words};
 ghost use Rattle.journal.specs.Figures.{figure_number};
 
+use crate::commands::HexWords;
 use crate::supplied::Supplied;
 use guard::calls::{Answer, Call};
 use journal::faults::BadFigures;
@@ -57,16 +58,42 @@ impl Made {
         }
     }
 
-    // Carries out a call on it.
-    #[tactic(auto, unfolding(crate::specs::Machines::call_number, crate::specs::Machines::call_stop, crate::specs::Machines::call_word, crate::specs::Machines::call_after))]
+    // Carries out a call on it. It is no drain, and copies out no words.
+    #[tactic(auto, unfolding(crate::specs::Machines::call_number, crate::specs::Machines::call_stop, crate::specs::Machines::call_word, crate::specs::Machines::call_count, crate::specs::Machines::call_after), using(crate::proofs::Copied::nothing_copied))]
     pub(crate) fn perform(&mut self, call: Call<'_>) -> Answer
         ensures number { number_in result ≡ call_number (request_of call.entry) (state_of supplied_words self.old.machine) }
         ensures stops { stopped_in_answer result ≡ call_stop (request_of call.entry) (state_of supplied_words self.old.machine) }
         ensures word { word_in result ≡ call_word (request_of call.entry) (state_of supplied_words self.old.machine) }
+        ensures count { count_in result ≡ call_count (request_of call.entry) (state_of supplied_words self.old.machine) }
+        ensures words { call_words (request_of call.entry) (state_of supplied_words self.old.machine) ≡ [] }
         ensures after { state_of supplied_words self.new.machine ≡ call_after (request_of call.entry) (state_of supplied_words self.old.machine) }
         ensures same { self.new.figures ≡ self.old.figures }
     {
         self.machine.perform(call)
+    }
+
+    // Drains its journal into a list, of which the words that were copied out are left.
+    #[tactic(auto, unfolding(crate::specs::Machines::call_number, crate::specs::Machines::call_stop, crate::specs::Machines::call_word, crate::specs::Machines::call_count, crate::specs::Machines::call_words, crate::specs::Machines::call_after), using(crate::proofs::Told::back, crate::proofs::Copied::front, crate::proofs::Copied::held_long))]
+    pub(crate) fn drain(&mut self, list: &mut Vec<u64>) -> Answer
+        ensures number { number_in result ≡ call_number (drain (vec_len list.old)) (state_of supplied_words self.old.machine) }
+        ensures stops { stopped_in_answer result ≡ call_stop (drain (vec_len list.old)) (state_of supplied_words self.old.machine) }
+        ensures word { word_in result ≡ call_word (drain (vec_len list.old)) (state_of supplied_words self.old.machine) }
+        ensures count { count_in result ≡ call_count (drain (vec_len list.old)) (state_of supplied_words self.old.machine) }
+        ensures words { list.new.items ≡ call_words (drain (vec_len list.old)) (state_of supplied_words self.old.machine) }
+        ensures few { vec_len list.new ≤ vec_len list.old }
+        ensures after { state_of supplied_words self.new.machine ≡ call_after (drain (vec_len list.old)) (state_of supplied_words self.old.machine) }
+        ensures same { self.new.figures ≡ self.old.figures }
+    {
+        match self.machine.drain(list.as_mut_slice()) {
+            Ok(count) => {
+                list.truncate(count as usize);
+                Answer::Drained(count)
+            }
+            Err(refusal) => {
+                list.clear();
+                Answer::Refused(refusal)
+            }
+        }
     }
 }
 
@@ -75,12 +102,13 @@ impl Made {
 pub(crate) struct Outcome(pub(crate) Answer);
 
 impl fmt::Display for Outcome {
-    ghost output = { λ o. Some (call_text (number_in o.0) (stopped_in_answer o.0) (word_in o.0)) };
+    ghost output = { λ o. Some (call_text (number_in o.0) (stopped_in_answer o.0) (word_in o.0) (count_in o.0)) };
 
     fn fmt<W: fmt::Write>(&self, f: &mut fmt::Formatter<W>) -> fmt::Result {
         match self.0 {
             Answer::Done => write!(f, "ok"),
             Answer::Word(word) => write!(f, "{}", Hexadecimal(word)),
+            Answer::Drained(count) => write!(f, "{count} words"),
             Answer::Refused(refusal) => write!(f, "refused {}", u8::from(refusal)),
             Answer::Faulted(fault) => match fault.stopped() {
                 None => write!(f, "refused {}", u8::from(fault)),
@@ -93,6 +121,21 @@ impl fmt::Display for Outcome {
                 ),
             },
         }
+    }
+}
+
+// The words that a call copied out, as they are printed.
+#[derive(Clone, Copy)]
+pub(crate) struct Copied<'a>(pub(crate) &'a [u64]);
+
+impl fmt::Display for Copied<'_> {
+    ghost output = { λ c. Some (copied_text c.0.now) };
+
+    fn fmt<W: fmt::Write>(&self, f: &mut fmt::Formatter<W>) -> fmt::Result {
+        if self.0.is_empty() {
+            return Ok(());
+        }
+        write!(f, "\n {}", HexWords(self.0))
     }
 }
 
