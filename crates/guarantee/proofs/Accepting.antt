@@ -8,6 +8,7 @@ use Rattle.std.proofs.lemmas.List.{length-set}
 use Rattle.std.proofs.lemmas.Option.{same_Some, slice_get_within}
 use Rattle.std.specs.Option.{option_map}
 use Rattle.journal.proofs.Packing.{length_packed}
+use Rattle.journal.proofs.Staying.{length_put}
 use Rattle.journal.specs.Bytes.{are_bytes, words_for}
 use Rattle.journal.specs.Figures.{figure_questions}
 use Rattle.journal.specs.Kinds.{level_number, level_of}
@@ -33,7 +34,7 @@ use Rattle.guard.specs.Steps.{change_for, is_accepted}
 use Rattle.guard.specs.declared.scans.Sought.TheVariants.{Executable, Present, Writable}
 use Rattle.guarantee.specs.Guarantee.{is_replayed, bytes_of_write}
 use Rattle.guarantee.proofs.Frames.{is_log, both, code_is, differ, first_of, free_each, plain_is, second_of, sole}
-use Rattle.guarantee.proofs.Keeping.{accept_sound, declare_sound, length_put, lies_in, release_sound, release_turned, retire_sound, set_sound, take_sound, turned_alone, turned_zeroed, zero_not_there, zero_there, unaccept_sound, write_sound, writes_outside}
+use Rattle.guarantee.proofs.Keeping.{accept_sound, declare_sound, lies_in, one_there, release_sound, release_turned, retire_sound, set_sound, take_sound, turned_alone, turned_zeroed, zero_not_there, zero_there, unaccept_sound, write_sound, writes_outside}
 use Rattle.guarantee.proofs.Places.{Outside, SameFrame, bytes_alike, inside_or_outside, set_in, set_out}
 use Rattle.guarantee.proofs.Sounds.{Names, Sound, Turned, below}
 
@@ -149,16 +150,13 @@ single_enacts s c frame k o kept is other follow fit room sound turned no_log al
   regions = λ w f low high e. absurd (other (sym is ∙ ap (slice_get s.guarded.picture.kinds) (sym (sole frame f low high)) ∙ e));
 }
 
-one_there : {P : Type 0} (s : State P) (frame : ℕ) (k : FrameKind) → kind_of s.guarded frame ≡ Some k → frame + 1 ≤ length s.guarded.picture.kinds
-one_there s frame k is = let low : frame < length s.guarded.picture.kinds = slice_get_within s.guarded.picture.kinds frame k is in omega (arith, low)
-
 declare_enacts : {P : Type 0} (means : Meaning P) (s : State P) (frame level : ℕ) (l : Level) → Kept s → Yes (questions means (declare frame level) s) → Enacts s (declared frame l)
 declare_enacts means s frame level l kept y = single_enacts s (declared frame l) frame (kind.Table l) kind.Plain kept plain (λ e. differ is_plain _ _ e refl refl)
     y.1.1.1.0 (less s frame kept y.1.0) y.1.1.1.1.1.0
     (declare_sound s.guarded.picture s.root s.guarded.first_log s.guarded.logs frame l kept.sound plain ((none_anywhere s.guarded.picture One (Writable frame 1)).0 y.1.1.1.1.0))
-    (turned_zeroed s.guarded.picture s.guarded.picture.regions frame 1 (kind.Table l) (one_there s frame _ plain))
+    (turned_zeroed s.guarded.picture s.guarded.picture.regions frame 1 (kind.Table l) (one_there s.guarded.picture frame _ plain))
     (λ e. differ is_log _ _ (sym e) refl refl)
-    (λ ws long agree. zeroed_alike s.guarded.picture _ frame 1 (kind.Table l) ws (turned_zeroed s.guarded.picture s.guarded.picture.regions frame 1 (kind.Table l) (one_there s frame _ plain)) agree)
+    (λ ws long agree. zeroed_alike s.guarded.picture _ frame 1 (kind.Table l) ws (turned_zeroed s.guarded.picture s.guarded.picture.regions frame 1 (kind.Table l) (one_there s.guarded.picture frame _ plain)) agree)
     (λ e. absurd (differ is_code _ _ (sym e) refl refl))
   where
     plain : kind_of s.guarded frame ≡ Some kind.Plain
@@ -168,9 +166,9 @@ accept_enacts : {P : Type 0} (means : Meaning P) (s : State P) (frame : ℕ) →
 accept_enacts means s frame kept y = single_enacts s (accepted frame) frame kind.Code kind.Plain kept plain (λ e. differ is_plain _ _ e refl refl)
     y.1.1.0 (less s frame kept y.1.0) y.1.1.1.1.1.0
     (accept_sound s.guarded.picture s.root s.guarded.first_log s.guarded.logs frame kept.sound plain ((none_anywhere s.guarded.picture One (Writable frame 1)).0 y.1.1.1.0) y.1.1.1.1.0)
-    (turned_alone s.guarded.picture s.guarded.picture.regions frame 1 kind.Code (one_there s frame _ plain))
+    (turned_alone s.guarded.picture s.guarded.picture.regions frame 1 kind.Code (one_there s.guarded.picture frame _ plain))
     (λ e. differ is_log _ _ (sym e) refl refl)
-    (λ ws long agree. left_alike s.guarded.picture _ frame 1 kind.Code ws (turned_alone s.guarded.picture s.guarded.picture.regions frame 1 kind.Code (one_there s frame _ plain)) agree (λ f low high e. absurd (false≢true e)))
+    (λ ws long agree. left_alike s.guarded.picture _ frame 1 kind.Code ws (turned_alone s.guarded.picture s.guarded.picture.regions frame 1 kind.Code (one_there s.guarded.picture frame _ plain)) agree (λ f low high e. absurd (false≢true e)))
     (λ e. refl)
   where
     plain : kind_of s.guarded frame ≡ Some kind.Plain
@@ -180,9 +178,9 @@ unaccept_enacts : {P : Type 0} (means : Meaning P) (s : State P) (frame : ℕ) �
 unaccept_enacts means s frame kept y = single_enacts s (unaccepted frame) frame kind.Plain kind.Code kept code (λ e. differ is_code _ _ e refl refl)
     y.1.1.0 (less s frame kept y.1.0) y.1.1.1.1.0
     (unaccept_sound s.guarded.picture s.root s.guarded.first_log s.guarded.logs frame kept.sound code ((none_anywhere s.guarded.picture One (Executable frame)).0 y.1.1.1.0))
-    (turned_alone s.guarded.picture s.guarded.picture.regions frame 1 kind.Plain (one_there s frame _ code))
+    (turned_alone s.guarded.picture s.guarded.picture.regions frame 1 kind.Plain (one_there s.guarded.picture frame _ code))
     (λ e. differ is_log _ _ (sym e) refl refl)
-    (λ ws long agree. left_alike s.guarded.picture _ frame 1 kind.Plain ws (turned_alone s.guarded.picture s.guarded.picture.regions frame 1 kind.Plain (one_there s frame _ code)) agree (λ f low high e. absurd (false≢true e)))
+    (λ ws long agree. left_alike s.guarded.picture _ frame 1 kind.Plain ws (turned_alone s.guarded.picture s.guarded.picture.regions frame 1 kind.Plain (one_there s.guarded.picture frame _ code)) agree (λ f low high e. absurd (false≢true e)))
     (λ e. absurd (differ is_plain _ _ e refl refl))
   where
     code : kind_of s.guarded frame ≡ Some kind.Code
@@ -218,9 +216,9 @@ retire_enacts means s frame kept y = single_enacts s (retired frame) frame kind.
     y.1.1.0 (less s frame kept y.1.0) y.1.1.1.1.1.0
     (retire_sound s.guarded.picture s.root s.guarded.first_log s.guarded.logs frame table.level kept.sound table.is (not_the_root s.root y.1.1.1.0)
     (λ above e. (none_anywhere s.guarded.picture above (Present frame)).0 (subst (λ o. unnamed_at s.guarded o frame ≡ true) (above_is above table.level e) (subst (λ o. unnamed_above s.guarded o frame ≡ true) table.is y.1.1.1.1.0))))
-    (turned_alone s.guarded.picture s.guarded.picture.regions frame 1 kind.Plain (one_there s frame _ table.is))
+    (turned_alone s.guarded.picture s.guarded.picture.regions frame 1 kind.Plain (one_there s.guarded.picture frame _ table.is))
     (λ e. differ is_log _ _ (sym e) refl refl)
-    (λ ws long agree. left_alike s.guarded.picture _ frame 1 kind.Plain ws (turned_alone s.guarded.picture s.guarded.picture.regions frame 1 kind.Plain (one_there s frame _ table.is)) agree (λ f low high e. absurd (false≢true e)))
+    (λ ws long agree. left_alike s.guarded.picture _ frame 1 kind.Plain ws (turned_alone s.guarded.picture s.guarded.picture.regions frame 1 kind.Plain (one_there s.guarded.picture frame _ table.is)) agree (λ f low high e. absurd (false≢true e)))
     (λ e. absurd (differ is_plain _ _ e refl refl))
   where
     table : TableOf (kind_of s.guarded frame)

@@ -6,6 +6,7 @@ use Rattle.std.proofs.lemmas.Option.{slice_get_within}
 use Rattle.std.specs.List.{list_all}
 use Rattle.memory.specs.ByteOrder.{bytes_of}
 use Rattle.journal.proofs.Lying.{lie}
+use Rattle.journal.proofs.Staying.{get_set_other}
 use Rattle.journal.specs.Bytes.{are_bytes, byte_in}
 use Rattle.journal.specs.Pictures.{Picture, apply, ends_inside, follows, frames_needed, is_plain, let_go, never_taken, region_of, write_into}
 use Rattle.journal.specs.Records.{Change, encode, declared, retired, taken, written, released, accepted, unaccepted}
@@ -25,7 +26,7 @@ use Rattle.guarantee.proofs.Accepting.{Enacts, Kept, all_yes, is_write}
 use Rattle.guarantee.proofs.Frames.{differ, first_of, is_region, not_true, second_of}
 use Rattle.guarantee.proofs.Happenings.{by_answer, event_kept, run_kept}
 use Rattle.guarantee.proofs.Keeping.{writes_outside}
-use Rattle.guarantee.proofs.Places.{SameFrame, inside_or_outside, get_set_other}
+use Rattle.guarantee.proofs.Places.{SameFrame, inside_or_outside}
 use Rattle.guarantee.proofs.Sounds.{Sound}
 use Rattle.guarantee.proofs.Stepping.{noting_out, store_out}
 use Rattle.guarantee.proofs.Viewing.{View, call_is, copied, recorded, stored_at, unaltered, view}

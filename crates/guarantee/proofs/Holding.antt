@@ -6,6 +6,7 @@ use Rattle.std.proofs.lemmas.Bool.Decides.{nat_tests}
 use Rattle.std.proofs.lemmas.List.{length-replicate}
 use Rattle.std.proofs.lemmas.Option.{same_Some, slice_get_within}
 use Rattle.journal.proofs.Fillings.{length_filled}
+use Rattle.journal.proofs.Staying.{none_live}
 use Rattle.journal.specs.Figures.{figure_questions}
 use Rattle.journal.specs.Pictures.{filled, is_code, is_table, new_picture, with_words}
 use Rattle.journal.specs.Playing.{start}
@@ -57,14 +58,6 @@ frame_is frames first count f k e = ⊎_elim
 neither : (frames first count f : ℕ) (k : FrameKind) (test : FrameKind → Bool) → slice_get (new_kinds frames first count) f ≡ Some k → test k ≡ true → test kind.Log ≡ false → test kind.Plain ≡ false → ⊥
 neither frames first count f k test e holds no_log no_plain = ⊎_elim (λ log. differ test k kind.Log log.0 holds no_log) (λ plain. differ test k kind.Plain plain holds no_plain) (frame_is frames first count f k e)
 
-is_untaken : RegionState → Bool
-is_untaken region.Untaken = true
-is_untaken other = false
-
-none_live : (r first size : ℕ) → slice_get (replicate 16 region.Untaken) r ≡ Some (region.Live first size) → ⊥
-unfolding is_untaken
-none_live r first size e = differ is_untaken region.Untaken (region.Live first size) (sym (get_alike 16 r region.Untaken _ e)) refl refl
-
 -- The frames of a new machine, as many as there were.
 frame_count : (frames first count : ℕ) → length (new_kinds frames first count) ≡ frames
 frame_count frames first count = length_filled (replicate frames kind.Plain) first count kind.Log ∙ length-replicate frames kind.Plain
@@ -91,8 +84,8 @@ module _ (words : List ℕ) (frames first count : ℕ) (whole : length words ≡
     log = λ f low high. filled_in (replicate frames kind.Plain) first count kind.Log f low high (let long = length-replicate frames kind.Plain in let fits = room in omega (arith, high, long, fits));
     only = λ f e. ⊎_elim (λ log. log.1) (λ plain. absurd (differ (λ k. is_log (Some k)) _ _ plain refl refl)) (frame_is frames first count f kind.Log e);
     regions = record {
-      lived = λ r start size e. absurd (none_live r start size e);
-      apart = λ r start size q from long other e. absurd (none_live r start size e);
+      lived = λ r start size e. absurd (none_live 16 r start size e);
+      apart = λ r start size q from long other e. absurd (none_live 16 r start size e);
     };
     code = λ f e. absurd (neither frames first count f _ (λ k. is_code (Some k)) e refl refl refl);
   }

@@ -4,6 +4,7 @@ use Rattle.std.proofs.lemmas.Bool.{cases_eq, false≢true}
 use Rattle.std.proofs.lemmas.List.{length-set}
 use Rattle.std.proofs.lemmas.Option.{same_Some, slice_get_within}
 use Rattle.journal.proofs.Fillings.{length_filled}
+use Rattle.journal.proofs.Staying.{first_frame, length_put, live_state, region_size, set_found}
 use Rattle.journal.specs.Pictures.{Picture, apply, can_be_taken, filled, frames_needed, is_code, is_plain, is_table, put_byte, put_bytes, region_of, with_words, let_go}
 use Rattle.journal.specs.Records.{declared, retired, taken, accepted, unaccepted}
 use Rattle.journal.specs.declared.kinds.FrameKind.{FrameKind}
@@ -16,14 +17,8 @@ use Rattle.paging.specs.Entries.{entry_at, present}
 use Rattle.guard.specs.Scans.{NoneAnywhere, scanned}
 use Rattle.guard.specs.declared.scans.Sought.TheVariants.{Executable, Present, Writable}
 use Rattle.guarantee.proofs.Frames.{is_log, is_region, above_by_kind, differ, executable_by_kind, no_executable, no_present, no_writable, sole, writable_by_kind}
-use Rattle.guarantee.proofs.Places.{Outside, SameFrame, bytes_out, filled_in, filled_out, inside_or_outside, set_found, set_in, set_out, scan_same, zeroed_in, zeroed_out}
+use Rattle.guarantee.proofs.Places.{Outside, SameFrame, bytes_out, filled_in, filled_out, inside_or_outside, set_in, set_out, scan_same, zeroed_in, zeroed_out}
 use Rattle.guarantee.proofs.Sounds.{Entries, Names, Regions, Sound, Turned, Unused, below, rewritten, turning}
-
--- Putting bytes into words leaves as many.
-pub length_put : (ws : List ℕ) (p : ℕ) (bs : List ℕ) → length (put_bytes ws p bs) ≡ length ws
-unfolding put_bytes
-length_put ws p [] = refl
-length_put ws p (b ∷ bs) = length_put (put_byte ws p b) (p + 1) bs ∙ length-set ws (p / 8) _
 
 -- A word of a frame that was zeroed, and of one that was not.
 pub zero_there : (ws : List ℕ) (from n f index : ℕ) → from ≤ f → f < from + n → index < 512 → entry_at (filled ws (512 * from) (512 * n) 0) f index ≡ 0
@@ -90,7 +85,7 @@ single p m root first_log logs frame k o sound turned unused same is no_log no_r
     (regions_kept p m frame 1 k sound.regions turned same (λ f low high e. clash p.kinds frame o is_region is no_region f (Some kind.Region) low high e refl))
 
 -- One frame that is there.
-one_there : (p : Picture) (frame : ℕ) (k : FrameKind) → slice_get p.kinds frame ≡ Some k → frame + 1 ≤ length p.kinds
+pub one_there : (p : Picture) (frame : ℕ) (k : FrameKind) → slice_get p.kinds frame ≡ Some k → frame + 1 ≤ length p.kinds
 one_there p frame k is = let there : frame < length p.kinds = slice_get_within p.kinds frame k is in omega (arith, there)
 
 -- A plain frame that no writable entry names is not made use of.
@@ -147,19 +142,6 @@ unaccept_sound p root first_log logs frame sound code none = single p _ root fir
     (not_root p root first_log logs frame _ sound code refl)
     (λ e. absurd (differ is_plain _ _ e refl refl))
 
--- The first frame and the size of a live region.
-abbrev first_of : RegionState → ℕ
-first_of (region.Live first n) = first
-first_of other = 0
-
-abbrev size_of : RegionState → ℕ
-size_of (region.Live first n) = n
-size_of other = 0
-
-abbrev is_live_state : RegionState → Bool
-is_live_state (region.Live first n) = true
-is_live_state other = false
-
 -- Take: frames that can be taken are a region's afterwards.
 pub take_sound : (p : Picture) (root : Option ℕ) (first_log logs r first n : ℕ) → Sound p root first_log logs → first + frames_needed n ≤ length p.kinds
     → ((f : ℕ) → first ≤ f → f < first + frames_needed n → can_be_taken (slice_get p.kinds f) ≡ true)
@@ -205,12 +187,12 @@ take_sound p root first_log logs r first n sound there free none = turning p m r
     never f low high x e fails = false≢true (sym fails ∙ sym (ap can_be_taken e) ∙ free f low high)
 
     starts : (size start : ℕ) → region.Live start size ≡ region.Live first n → start ≡ first
-    starts size start e = ap first_of e
+    starts size start e = ap first_frame e
 
     inside_new : (k start size : ℕ) → region.Live start size ≡ region.Live first n → k < frames_needed size → start + k < first + count
     inside_new k start size e low =
-        let begin : start ≡ first = ap first_of e in
-        let long : frames_needed size ≡ count = ap (λ s. frames_needed (size_of s)) e in
+        let begin : start ≡ first = ap first_frame e in
+        let long : frames_needed size ≡ count = ap (λ s. frames_needed (region_size s)) e in
         omega (arith, begin, long, low)
 
     still : (f : ℕ) → slice_get p.kinds f ≡ Some kind.Region → slice_get m.kinds f ≡ Some kind.Region
@@ -278,7 +260,7 @@ release_sound p root first_log logs r first n sound live = turning p m root firs
 
     was : (q start size : ℕ) → region_of m q ≡ Some (region.Live start size) → (q ≡ r → ⊥) × (region_of p q ≡ Some (region.Live start size))
     was q start size is = ⊎_elim
-        (λ this. absurd (differ is_live_state _ _ this.1 refl refl))
+        (λ this. absurd (differ live_state _ _ this.1 refl refl))
         (λ other. other)
         (set_found p.regions r q region.Released (region.Live start size) is)
 

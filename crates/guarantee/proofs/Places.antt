@@ -9,6 +9,7 @@ use Rattle.std.proofs.Math.ListN.{get_or-eq_default}
 use Rattle.memory.specs.ByteOrder.{bytes_of, first}
 use Rattle.journal.specs.Pictures.{filled, put_byte, put_bytes}
 use Rattle.journal.proofs.Fillings.{length_filled}
+use Rattle.journal.proofs.Staying.{get_set_other, get_set_same}
 use Rattle.scanner.specs.Rule.{bytes_of_words, passing}
 use Rattle.paging.specs.Entries.{entry_at}
 use Rattle.guard.specs.Guarding.{put_words, words_from}
@@ -21,31 +22,6 @@ Outside from n k = (k < from) ⊎ (from + n ≤ k)
 -- Inside or outside.
 pub inside_or_outside : (from n k : ℕ) → ((from ≤ k) × (k < from + n)) ⊎ Outside from n k
 inside_or_outside from n k = ⊎_elim (λ below. inr (inl below)) (λ above. ⊎_elim (λ low. inl (above, low)) (λ past. inr (inr past)) (cases_lt k (from + n))) (cases_lt k from)
-
--- An item of a list of which one was replaced.
-get_set_same : {X : Type 0} (xs : List X) (i : ℕ) (x : X) → i < length xs → slice_get (set xs i x) i ≡ Some x
-get_set_same [] i x inside = absurd (none inside)
-  where
-    none : i < 0 → ⊥
-    none l = omega (arith, l)
-get_set_same (y ∷ xs) zero x inside = refl
-get_set_same (y ∷ xs) (suc i) x inside = get_set_same xs i x (omega (arith, inside))
-
-pub get_set_other : {X : Type 0} (xs : List X) (i j : ℕ) (x : X) → (j ≡ i → ⊥) → slice_get (set xs i x) j ≡ slice_get xs j
-get_set_other [] i j x apart = refl
-get_set_other (y ∷ xs) zero zero x apart = absurd (apart refl)
-get_set_other (y ∷ xs) zero (suc j) x apart = refl
-get_set_other (y ∷ xs) (suc i) zero x apart = refl
-get_set_other (y ∷ xs) (suc i) (suc j) x apart = get_set_other xs i j x (λ same. apart (ap suc same))
-
-pub set_found : {X : Type 0} (xs : List X) (i j : ℕ) (x v : X) → slice_get (set xs i x) j ≡ Some v → ((j ≡ i) × (v ≡ x)) ⊎ ((j ≡ i → ⊥) × (slice_get xs j ≡ Some v))
-set_found xs i j x v e = ⊎_elim
-    (λ same. inl (same, sym (same_Some x v (sym (get_set_same xs i x (there same)) ∙ sym (ap (slice_get (set xs i x)) same) ∙ e))))
-    (λ apart. inr (apart, sym (get_set_other xs i j x apart) ∙ e))
-    (cases_eq j i)
-  where
-    there : j ≡ i → i < length xs
-    there same = let within : j < length (set xs i x) = slice_get_within (set xs i x) j v e in omega (arith, same, within, length-set xs i x)
 
 -- An item of a list of which n were replaced, where it is one of these, and where it is not.
 pub filled_in : {X : Type 0} (xs : List X) (from n : ℕ) (x : X) (k : ℕ) → from ≤ k → k < from + n → k < length xs → slice_get (filled xs from n x) k ≡ Some x
@@ -109,20 +85,6 @@ set_in ws k v there = get_or-set_same ws k v 0 there
 
 pub set_out : (ws : List ℕ) (i v k : ℕ) → (k ≡ i → ⊥) → slice_index (set ws i v) k ≡ slice_index ws k
 set_out ws i v k apart = get_or-set_other ws i k v 0 apart
-
--- A word outside those that were put is as it was.
-pub put_out : (ws : List ℕ) (at : ℕ) (items : List ℕ) (k : ℕ) → Outside at (length items) k → slice_index (put_words ws at items) k ≡ slice_index ws k
-unfolding put_words
-put_out ws at [] k apart = refl
-put_out ws at (w ∷ more) k apart = put_out (set ws at w) (at + 1) more k (behind apart) ∙ get_or-set_other ws at k w 0 (other apart)
-  where
-    behind : Outside at (suc (length more)) k → Outside (at + 1) (length more) k
-    behind (inl below) = inl (omega (arith, below))
-    behind (inr above) = inr (omega (arith, above))
-
-    other : Outside at (suc (length more)) k → k ≡ at → ⊥
-    other (inl below) same = omega (arith, below, same)
-    other (inr above) same = omega (arith, above, same)
 
 -- A word none of whose bytes were put is as it was; and where two lists have one word, they have one still, whatever bytes are put into both.
 pub bytes_out : (ws : List ℕ) (p : ℕ) (bs : List ℕ) (k : ℕ) → (8 * k + 8 ≤ p) ⊎ (p + length bs ≤ 8 * k) → slice_index (put_bytes ws p bs) k ≡ slice_index ws k

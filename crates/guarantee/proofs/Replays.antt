@@ -11,6 +11,7 @@ use Rattle.std.proofs.lemmas.Grind.{flat_map-append}
 use Rattle.std.proofs.lemmas.List.FromFn.{get_or-map-range_with_len, length-map-range_with_len, map-range_with_len_more}
 use Rattle.std.proofs.lemmas.List.{drop_all, length-set}
 use Rattle.journal.proofs.Fillings.{length_filled}
+use Rattle.journal.proofs.Staying.{length_put}
 use Rattle.journal.proofs.Inverses.{empty_ends}
 use Rattle.journal.proofs.Playings.{records_none}
 use Rattle.journal.proofs.Joining.{inverse_of_all}
@@ -28,7 +29,7 @@ use Rattle.journal.specs.declared.regions.RegionState.{RegionState}
 use Rattle.journal.specs.declared.regions.RegionState.TheVariants as region
 use Rattle.paging.specs.Questions.{place_reached}
 use Rattle.policy.specs.Policies.{Lawful, Meaning}
-use Rattle.guard.proofs.Laying.{length_put_words, words_lie}
+use Rattle.guard.proofs.Laying.{length_put_words, put_out, words_lie}
 use Rattle.guard.specs.Guarding.{Guarded, held_words, journaled, put_words, words_from}
 use Rattle.guard.specs.Scans.{frame_words}
 use Rattle.guard.specs.States.{State}
@@ -40,8 +41,7 @@ use Rattle.guarantee.specs.Guarantee.{Event, Happens, Replay, Run, figures_of, i
 use Rattle.guarantee.proofs.Accepting.{Agree, Enacts, Kept, Yes, all_yes}
 use Rattle.guarantee.proofs.Frames.{both, differ, is_log}
 use Rattle.guarantee.proofs.Happenings.{by_answer, event_kept}
-use Rattle.guarantee.proofs.Keeping.{length_put}
-use Rattle.guarantee.proofs.Places.{SameFrame, frame_same, inside_or_outside, put_out, words_same}
+use Rattle.guarantee.proofs.Places.{SameFrame, frame_same, inside_or_outside, words_same}
 use Rattle.guarantee.proofs.Stepping.{noting_out, store_out}
 use Rattle.guarantee.proofs.Viewing.{View, copied, recorded, stored_at, unaltered, view}
 

@@ -16,7 +16,7 @@ use Rattle.paging.specs.Questions.{access_questions, place_reached}
 use Rattle.paging.specs.Walks.{page_of}
 use Rattle.paging.specs.declared.faults.Access.TheVariants as access
 use Rattle.policy.specs.Policies.{Lawful, Meaning}
-use Rattle.guard.proofs.Laying.{length_put_words}
+use Rattle.guard.proofs.Laying.{length_put_words, put_out}
 use Rattle.guard.specs.Calls.{Request, declare, set, retire, take, write, release, accept, unaccept, load_register, load_root, load, store, fetch, drain}
 use Rattle.guard.specs.Guarding.{Guarded, journaled, put_words}
 use Rattle.guard.specs.Orders.{kind_of, questions}
@@ -26,7 +26,7 @@ use Rattle.guard.specs.Steps.{change_for, effect, is_accepted, journaled_if, sto
 use Rattle.guarantee.specs.Guarantee.{bytes_of_write}
 use Rattle.guarantee.proofs.Accepting.{Enacts, Kept, KeptBy, Yes, all_yes, enacted_by}
 use Rattle.guarantee.proofs.Frames.{is_log, differ}
-use Rattle.guarantee.proofs.Places.{Outside, SameFrame, inside_or_outside, put_out, set_out}
+use Rattle.guarantee.proofs.Places.{Outside, SameFrame, inside_or_outside, set_out}
 use Rattle.guarantee.proofs.Sounds.{Sound, rewritten}
 use Rattle.guarantee.proofs.Walking.{executable_translates, fetch_code, store_plain, writable_translates}
 
