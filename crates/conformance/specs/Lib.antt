@@ -1,0 +1,3 @@
+-- What the contracts of this crate speak of.
+pub mod Figures
+pub mod Comparing
