@@ -5,8 +5,8 @@ ghost use Rattle.journal.specs.Records.{change_of, encode};
 ghost use Rattle.policy.specs.Policies.{permitted};
 ghost use Rattle.conformance.specs.Figures.{Figures, appended};
 
-use journal::kinds::FrameKind;
 use journal::records::{Record, Stretch};
+use journal::regions::frames_needed;
 use memory::kinds::Words;
 use paging::addresses::split;
 use paging::faults::{Access, AccessFault};
@@ -122,7 +122,8 @@ fn records_agree() -> bool
         offset: 16,
         stretch,
     };
-    words_of(&taken) == [0x0000_1001_0900_0104, 0, 0]
+    frames_needed(4097) == 2
+        && words_of(&taken) == [0x0000_1001_0900_0104, 0, 0]
         && words_of(&written) == [0x0000_0010_0000_0105, 3, 0x63_6261]
 }
 
@@ -130,7 +131,7 @@ fn records_agree() -> bool
 #[tactic(auto, using(crate::proofs::Figuring::figures))]
 pub fn agree() -> bool
     ensures figures { Figures }
-    ensures agree { result ≡ true }
+    ensures is { result ≡ true }
 {
     splits_agree()
         && refusal_agrees(Access::Load)
