@@ -3,6 +3,8 @@
 --   asked           the request that a line asks for
 --   asked_of        the request that a name and the words behind it spell
 --   request_text    a request as it is printed
+--
+-- Made of: `register_of`, `register_name`, `access_of`, `short_call_of`, `write_of`.
 use Rattle.std.specs.Prelude.{ℕ, cond, List, ◌++◌, Some, None, vec_items, codes, decimal, Option}
 use Rattle.std.specs.Option.{option_and_then, option_map}
 use Rattle.std.specs.Str.{bytes_eq}

@@ -5,6 +5,9 @@
 --   command_of      the command that a text without comment spells
 --   reading         what a whole line comes to
 --   asks_for_list   whether a line is to be read as a command with a list
+--
+-- Made of: `kind_name`, `set_apart`, `kind_of`, `most`, `memory_of`, `word_of`, `machine_of`, `drain_of`, `scan_of`, `split_of`, `numbers_behind`,
+-- `some_numbers`, `journal_of`, `records_of`, `play_of`, `spelled`, `takes_list`.
 use Rattle.std.specs.Prelude.{ℕ, Bool, cond, ◌||◌, List, [], ◌∷◌, ◌++◌, length, Some, None, vec_items, codes, decimal, Option, ◌==◌, nat_le}
 use Rattle.std.specs.Option.{option_and_then, option_map}
 use Rattle.std.specs.List.{flat_map}

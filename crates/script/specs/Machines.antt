@@ -7,6 +7,8 @@
 --   call_after                          what a call makes of the machine
 --   call_text, copied_text              what is printed of the first four, and of the words
 --   made_text, parts_text               and of making a machine, and of the parts of an address
+--
+-- Made of: `frames_shown`, `refused_text`.
 use Rattle.std.specs.Prelude.{ℕ, ◌/◌, true, cond, List, [], ◌++◌, ◌==◌, length, replicate, Some, None, codes, decimal, Option}
 use Rattle.guard.specs.Calls.{Request, drain}
 use Rattle.guard.specs.Guarding.{held_words}

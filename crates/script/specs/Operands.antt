@@ -3,6 +3,8 @@
 --   ends_before, only               that no word is left over, and a value where none is
 --   decimal_at, hexadecimal_at      the number or the word that is written at a place
 --   one_number, two_numbers, ..     the values where these are written, and nothing else
+--
+-- Made of: `three_numbers`, `place_and_word`, `one_word`, `two_words`.
 use Rattle.std.specs.Prelude.{ℕ, Bool, cond, List, length, Some, None, Option, ◌==◌}
 use Rattle.std.specs.Option.{option_and_then}
 use Rattle.text.specs.Lines.{word_at}

@@ -6,6 +6,8 @@
 --   Replied         both, of a call
 --   Whole           that a line was carried out whole or not at all
 --   Answered        what came of a line, before one that cannot be read is answered
+--
+-- Made of: `line_feed`, `line_at`, `replied`, `after_reading`.
 use Rattle.std.specs.Prelude.{◌≡◌, ℕ, false, cond, ◌⊎◌, List, [], ◌∷◌, ◌++◌, is_some, Some, None, Ok, Err, codes, decimal, Option, Result}
 use Rattle.script.specs.Commands.{Said, echo, reading}
 use Rattle.script.specs.Operands.{ends_before}

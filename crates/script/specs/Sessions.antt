@@ -12,6 +12,9 @@
 --   is_machined, has_machine   whether there is a machine
 --   allocates       whether carrying out a command takes memory
 --   Carries         that a call answered a command, and left the session as it should
+--
+-- Made of: `basis_of`, `frames_of`, `preset_in`, `make_in`, `call_in`, `kept_in`, `playing_told`, `play_answer`, `play_log_in`, `new_memory`,
+-- `with_basis`, `with_word`, `with_machine`, `with_call`, `with_kept`.
 use Rattle.std.specs.Prelude.{◌≡◌, ℕ, ◌+◌, ◌*◌, Bool, true, false, cond, ◌&&◌, List, [], ◌++◌, length, replicate, is_ok, is_some, Some, None, codes, decimal, Option, Result, nat_lt, slice_set, vec_items}
 use Rattle.std.specs.Option.{option_and_then, option_map}
 use Rattle.journal.specs.Pictures.{Picture}

@@ -44,8 +44,8 @@ impl Made {
     // A machine over a memory, with so many log frames from a first one on.
     #[tactic(auto, unfolding(crate::specs::Machines::new_machine))]
     pub(crate) fn new(memory: Supplied, first: u64, count: u64) -> Made
-        ensures machine { state_of supplied_words result.machine ≡ new_machine (supplied_words memory) first count }
-        ensures figures { result.figures ≡ log_figures (frames_shown (supplied_words memory)) first count }
+        ensures is { state_of supplied_words result.machine ≡ new_machine (supplied_words memory) first count }
+        ensures figure { result.figures ≡ log_figures (frames_shown (supplied_words memory)) first count }
     {
         let figures = LogFigures {
             frames: memory.frames(),

@@ -3,6 +3,8 @@
 --   Blank, Word     a run of blanks; one byte or more, none of them a blank
 --   Laid            that a text is these words in turn, set apart by blanks
 --   WordsFound      that each text is laid out so by `words_of`, and that `word_at` finds its words
+--
+-- Made of: `Apart`, `Begins`.
 use Rattle.std.specs.Prelude.{◌≡◌, ℕ, ◌<◌, true, false, List, [], ◌∷◌, ◌++◌, length, slice_index_or}
 use Rattle.std.specs.List.{AllByRecursion}
 use Rattle.text.specs.Lines.{blank, word_at, words_of}

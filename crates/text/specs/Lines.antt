@@ -6,6 +6,8 @@
 --   word_at         a word of a text by its place, from 0 on; empty where there are fewer words
 --   words_of        the words of a text in turn
 --   shown_text      a line as it is shown where it cannot be read
+--
+-- Made of: `blank`, `chopped`, `unindented`, `first_word`, `after_words`, `lengthened`, `lettered`, `trimmed`.
 use Rattle.std.specs.Prelude.{ℕ, zero, suc, ◌-◌, Bool, cond, ◌&&◌, ◌||◌, List, [], ◌∷◌, length, take, drop, Some, None, Option, ◌==◌, nat_lt, slice_index}
 use Rattle.std.specs.List.{prefix_len, position_or_len, suffix_len, before_first}
 

@@ -5,6 +5,8 @@
 --   bytes_of        the bytes that a word of hexadecimal digits writes, two digits to a byte
 --
 -- `digit_value`, `IsNumeral` and `digits_value` are the library's: a digit in either case, one digit or more, what the digits write.
+--
+-- Made of: `base`, `digit_of`, `reads_on`, `pair_of`, `pairs_of`.
 use Rattle.std.specs.Prelude.{ℕ, ◌+◌, ◌*◌, ◌^◌, ◌<◌, cond, ◌&&◌, List, [], ◌∷◌, length, Some, None, codes, Option, ◌==◌, nat_lt}
 use Rattle.std.specs.Option.{option_and_then, option_map}
 use Rattle.std.specs.Str.Parse.{IsNumeral, digits_value}

@@ -3,6 +3,8 @@
 --   hexadecimal     a number in upper-case hexadecimal digits, without leading zeros
 --   hex_bytes       bytes in two digits each, or `-` for none
 --   Puts            that a call put a text behind what a list held
+--
+-- Made of: `hex_digit`, `two_digits`.
 use Rattle.std.specs.Prelude.{◌≡◌, ℕ, ◌+◌, ◌/◌, ◌%◌, cond, List, [], ◌∷◌, ◌++◌, map, length, codes, Result, OnOk, ◌==◌, nat_lt}
 use Rattle.std.specs.List.{flat_map}
 use Rattle.std.specs.Int.Digits.{digits_of}
