@@ -11,11 +11,12 @@
 --   is_drain        whether a call is a drain
 --   is_machined, has_machine   whether there is a machine
 --   allocates       whether carrying out a command takes memory
+--   has_form        whether the answer to a call is one that the call has
 --   Carries         that a call answered a command, and left the session as it should
 --
 -- Made of: `basis_of`, `frames_of`, `preset_in`, `make_in`, `call_in`, `kept_in`, `playing_told`, `play_answer`, `play_log_in`, `new_memory`,
 -- `with_basis`, `with_word`, `with_machine`, `with_call`, `with_kept`.
-use Rattle.std.specs.Prelude.{◌≡◌, ℕ, ◌+◌, ◌*◌, Bool, true, false, cond, ◌&&◌, List, [], ◌++◌, length, replicate, is_ok, is_some, Some, None, codes, decimal, Option, Result, nat_lt, slice_set, vec_items}
+use Rattle.std.specs.Prelude.{◌≡◌, ℕ, ◌+◌, ◌*◌, Bool, true, false, cond, ◌&&◌, IfOk, List, [], ◌++◌, length, replicate, is_ok, is_some, Some, None, codes, decimal, Option, Result, nat_lt, slice_set, vec_items}
 use Rattle.std.specs.Option.{option_and_then, option_map}
 use Rattle.journal.specs.Pictures.{Picture}
 use Rattle.journal.specs.Playing.{Outcome, fault_says, picture_from, played, playing, start}
@@ -31,6 +32,7 @@ use Rattle.script.specs.declared.session.Stage.{Stage}
 use Rattle.script.specs.declared.session.Stage.TheVariants as stage
 use Rattle.guard.specs.Calls.{Request, drain, count_in, number_in, stopped_in_answer, word_in}
 use Rattle.guard.specs.States.{State}
+use Rattle.guard.specs.Steps.{is_answer_to}
 use Rattle.journal.specs.Figures.{figure_number, figure_questions}
 use Rattle.journal.specs.Questions.{first_no}
 use Rattle.machine.specs.Machines.{state_of}
@@ -233,8 +235,14 @@ allocates m records = true
 allocates m play_log = has_machine m
 allocates m (play first count) = is_some m
 
--- the answer is that of the command, only an answered command changes what is held, and memory is wanted only where it is taken
+-- the answer to a call is one that the call has: a refusal, and not the fault of an access with the same number, or the other way round
+abbrev pub has_form : Said → Answer → Bool
+has_form (call q) (answer.Called a ws) = is_answer_to q a
+has_form other a = true
+
+-- the answer is that of the command and has its form, only an answered command changes what is held, and memory is wanted only where it is taken
 pub record Carries (c : Said) (r : Result Answer Unread) (was is : Option Held) : Type 0 where
   pub answers : Gives told r (answer_of was c)
   pub after : is ≡ cond (is_ok r) (held_after was c) was
   pub wants : wants_memory r ≡ true → allocates was c ≡ true
+  pub form : IfOk r (λ a. has_form c a ≡ true)

@@ -1,7 +1,8 @@
 // The machine that a script makes, and what is printed of it.
-ghost use Rattle.std.specs.Prelude.{◌≡◌, ◌≤◌, [], vec_len, Some};
+ghost use Rattle.std.specs.Prelude.{◌≡◌, ◌≤◌, true, [], vec_len, Some};
 ghost use Rattle.std.specs.Option.{option_map};
 ghost use Rattle.guard.specs.Calls.{count_in, drain, number_in, request_of, stopped_in_answer, word_in};
+ghost use Rattle.guard.specs.Steps.{is_answer_to};
 ghost use Rattle.machine.specs.Machines.{state_of};
 ghost use Rattle.script.specs.Machines.{call_after, call_count, call_number, call_stop, call_text, call_word, call_words, copied_text, frames_shown, log_figures, made_text, new_machine, new_policies, parts_text};
 ghost use Rattle.script.specs.Supplies.{supplied_words};
@@ -66,6 +67,7 @@ impl Made {
         ensures word { word_in result ≡ call_word (request_of call.entry) (state_of supplied_words self.old.machine) }
         ensures count { count_in result ≡ call_count (request_of call.entry) (state_of supplied_words self.old.machine) }
         ensures words { call_words (request_of call.entry) (state_of supplied_words self.old.machine) ≡ [] }
+        ensures form { is_answer_to (request_of call.entry) result ≡ true }
         ensures after { state_of supplied_words self.new.machine ≡ call_after (request_of call.entry) (state_of supplied_words self.old.machine) }
         ensures same { self.new.figures ≡ self.old.figures }
     {
@@ -81,6 +83,7 @@ impl Made {
         ensures count { count_in result ≡ call_count (drain (vec_len list.old)) (state_of supplied_words self.old.machine) }
         ensures words { list.new.items ≡ call_words (drain (vec_len list.old)) (state_of supplied_words self.old.machine) }
         ensures few { vec_len list.new ≤ vec_len list.old }
+        ensures form { is_answer_to (drain (vec_len list.old)) result ≡ true }
         ensures after { state_of supplied_words self.new.machine ≡ call_after (drain (vec_len list.old)) (state_of supplied_words self.old.machine) }
         ensures same { self.new.figures ≡ self.old.figures }
     {
