@@ -7,12 +7,13 @@ use Rattle.std.proofs.lemmas.Bool.Decides.{nat_tests}
 use Rattle.std.proofs.lemmas.List.{length-set}
 use Rattle.std.proofs.lemmas.Option.{same_Some, slice_get_within}
 use Rattle.std.specs.Option.{option_map}
+use Rattle.journal.proofs.Inverses.{of_level}
 use Rattle.journal.proofs.Packing.{length_packed}
 use Rattle.journal.proofs.Staying.{length_put}
 use Rattle.journal.specs.Bytes.{are_bytes, words_for}
 use Rattle.journal.specs.Figures.{figure_questions}
 use Rattle.journal.specs.Kinds.{level_number, level_of}
-use Rattle.journal.specs.Pictures.{Picture, apply, can_be_taken, ends_inside, filled, follows, frames_needed, is_code, is_live, is_plain, is_table, let_go, region_of, with_words, write_into}
+use Rattle.journal.specs.Pictures.{Picture, apply, can_be_taken, ends_inside, filled, follows, frames_needed, is_code, is_live, is_plain, is_table, let_go, region_of, with_words, write_into, keeps_words}
 use Rattle.journal.specs.Questions.{Question, first_no}
 use Rattle.journal.specs.Records.{Change, encode, fits, declared, retired, taken, written, released, accepted, unaccepted}
 use Rattle.journal.specs.Records as change
@@ -32,7 +33,7 @@ use Rattle.guard.specs.Orders.{entry_questions, executes_code, is_governed, is_n
 use Rattle.guard.specs.States.{State}
 use Rattle.guard.specs.Steps.{change_for, is_accepted}
 use Rattle.guard.specs.declared.scans.Sought.TheVariants.{Executable, Present, Writable}
-use Rattle.guarantee.specs.Guarantee.{is_replayed, bytes_of_write}
+use Rattle.guarantee.specs.Guarantee.{bytes_of_write}
 use Rattle.guarantee.proofs.Frames.{is_log, both, code_is, differ, first_of, free_each, plain_is, second_of, sole}
 use Rattle.guarantee.proofs.Keeping.{accept_sound, declare_sound, lies_in, one_there, release_sound, release_turned, retire_sound, set_sound, take_sound, turned_alone, turned_zeroed, zero_not_there, zero_there, unaccept_sound, write_sound, writes_outside}
 use Rattle.guarantee.proofs.Places.{Outside, SameFrame, bytes_alike, inside_or_outside, set_in, set_out}
@@ -73,7 +74,7 @@ Kept s = KeptBy s.sound s.guarded s.root
 
 -- Words agree with those of a picture in all frames that are replayed.
 abbrev pub Agree : List ℕ → Picture → Type 0
-Agree ws p = (f : ℕ) → is_replayed (slice_get p.kinds f) ≡ true → SameFrame ws p.words f
+Agree ws p = (f : ℕ) → keeps_words (slice_get p.kinds f) ≡ true → SameFrame ws p.words f
 
 abbrev pub is_write : Change → Bool
 is_write (written r offset bytes) = true
@@ -97,22 +98,22 @@ pub record Enacts {P : Type 0} (s : State P) (c : Change) : Type 0 where
   pub regions : is_write c ≡ false → (f : ℕ) → from ≤ f → f < from + n → slice_get s.guarded.picture.kinds f ≡ Some kind.Region → SameFrame (apply c s.guarded.picture).words s.guarded.picture.words f
 
 -- So it is where words are zeroed in frames that are turned, or are left alone, or one of a table's is set, or bytes are put.
-before_turn : (p m : Picture) (from n : ℕ) (k : FrameKind) → Turned p m from n k → (f : ℕ) → Outside from n f → is_replayed (slice_get m.kinds f) ≡ true → is_replayed (slice_get p.kinds f) ≡ true
-before_turn p m from n k turned f outside is = ap is_replayed (sym (turned.others f outside)) ∙ is
+before_turn : (p m : Picture) (from n : ℕ) (k : FrameKind) → Turned p m from n k → (f : ℕ) → Outside from n f → keeps_words (slice_get m.kinds f) ≡ true → keeps_words (slice_get p.kinds f) ≡ true
+before_turn p m from n k turned f outside is = ap keeps_words (sym (turned.others f outside)) ∙ is
 
-zeroed_alike : (p m : Picture) (from n : ℕ) (k : FrameKind) (ws : List ℕ) → Turned p m from n k → Agree ws p → (f : ℕ) → is_replayed (slice_get m.kinds f) ≡ true → SameFrame (filled ws (512 * from) (512 * n) 0) (filled p.words (512 * from) (512 * n) 0) f
+zeroed_alike : (p m : Picture) (from n : ℕ) (k : FrameKind) (ws : List ℕ) → Turned p m from n k → Agree ws p → (f : ℕ) → keeps_words (slice_get m.kinds f) ≡ true → SameFrame (filled ws (512 * from) (512 * n) 0) (filled p.words (512 * from) (512 * n) 0) f
 zeroed_alike p m from n k ws turned agree f is index low = ⊎_elim
     (λ inside. zero_there ws from n f index inside.0 inside.1 low ∙ sym (zero_there p.words from n f index inside.0 inside.1 low))
     (λ outside. zero_not_there ws from n f index outside low ∙ agree f (before_turn p m from n k turned f outside is) index low ∙ sym (zero_not_there p.words from n f index outside low))
     (inside_or_outside from n f)
 
-left_alike : (p m : Picture) (from n : ℕ) (k : FrameKind) (ws : List ℕ) → Turned p m from n k → Agree ws p → ((f : ℕ) → from ≤ f → f < from + n → is_replayed (Some k) ≡ true → is_replayed (slice_get p.kinds f) ≡ true) → (f : ℕ) → is_replayed (slice_get m.kinds f) ≡ true → SameFrame ws p.words f
+left_alike : (p m : Picture) (from n : ℕ) (k : FrameKind) (ws : List ℕ) → Turned p m from n k → Agree ws p → ((f : ℕ) → from ≤ f → f < from + n → keeps_words (Some k) ≡ true → keeps_words (slice_get p.kinds f) ≡ true) → (f : ℕ) → keeps_words (slice_get m.kinds f) ≡ true → SameFrame ws p.words f
 left_alike p m from n k ws turned agree was f is = ⊎_elim
-    (λ inside. agree f (was f inside.0 inside.1 (ap is_replayed (sym (turned.turns f inside.0 inside.1)) ∙ is)))
+    (λ inside. agree f (was f inside.0 inside.1 (ap keeps_words (sym (turned.turns f inside.0 inside.1)) ∙ is)))
     (λ outside. agree f (before_turn p m from n k turned f outside is))
     (inside_or_outside from n f)
 
-set_alike : (p : Picture) (ws : List ℕ) (place entry : ℕ) → length ws ≡ length p.words → Agree ws p → place < length p.words → (f : ℕ) → is_replayed (slice_get p.kinds f) ≡ true → SameFrame (put ws place entry) (put p.words place entry) f
+set_alike : (p : Picture) (ws : List ℕ) (place entry : ℕ) → length ws ≡ length p.words → Agree ws p → place < length p.words → (f : ℕ) → keeps_words (slice_get p.kinds f) ≡ true → SameFrame (put ws place entry) (put p.words place entry) f
 set_alike p ws place entry long agree room f is index low = ⊎_elim
     (λ same. ap (slice_index (put ws place entry)) same ∙ set_in ws place entry (omega (arith, long, room)) ∙ sym (ap (slice_index (put p.words place entry)) same ∙ set_in p.words place entry room))
     (λ apart. set_out ws place entry (512 * f + index) apart ∙ agree f is index low ∙ sym (set_out p.words place entry (512 * f + index) apart))
@@ -124,9 +125,6 @@ less s f kept is = let few = kept.few in let low : f < length s.guarded.picture.
 
 roomy : (held logs n m : ℕ) → nat_le (held + n) (512 * logs) ≡ true → n ≡ m → held + m ≤ 512 * logs
 roomy held logs n m is same = let fits : held + n ≤ 512 * logs = grind (arith, nat_tests, is) in omega (arith, fits, same)
-
-not_region : (kinds : List FrameKind) (frame : ℕ) (o : Option FrameKind) → slice_get kinds frame ≡ o → (o ≡ Some kind.Region → ⊥) → (f : ℕ) → frame ≤ f → f < frame + 1 → slice_get kinds f ≡ Some kind.Region → ⊥
-not_region kinds frame o is never f low high e = never (sym is ∙ ap (slice_get kinds) (sym (sole frame f low high)) ∙ e)
 
 -- A single frame of a kind that no region has, turned to another.
 single_enacts : {P : Type 0} (s : State P) (c : Change) (frame : ℕ) (k : FrameKind) (o : FrameKind) → Kept s → slice_get s.guarded.picture.kinds frame ≡ Some o → (Some o ≡ Some kind.Region → ⊥)
@@ -249,14 +247,8 @@ one_lower level (Some kind.Region) lower e down = absurd (false≢true e)
 one_lower level (Some kind.Code) lower e down = absurd (false≢true e)
 one_lower level (Some kind.Log) lower e down = absurd (false≢true e)
 one_lower level (Some kind.Reserve) lower e down = absurd (false≢true e)
-one_lower level (Some (kind.Table l)) lower e down = ap (λ o. Some (kind.Table o)) (same_Some l lower (sym (level_back l) ∙ ap level_of number ∙ level_back lower))
+one_lower level (Some (kind.Table l)) lower e down = ap (λ o. Some (kind.Table o)) (same_Some l lower (sym (of_level l) ∙ ap level_of number ∙ of_level lower))
   where
-    level_back : (m : Level) → level_of (level_number m) ≡ Some m
-    level_back One = refl
-    level_back Two = refl
-    level_back Three = refl
-    level_back Four = refl
-
     number : level_number l ≡ level_number lower
     number =
         let up : level_of (level_number lower + 1) ≡ Some level = above_is level lower down in
@@ -394,7 +386,7 @@ release_enacts means s r laws kept y = record {
   turned = subst (λ o. Turned p (let_go p o r) its.first (frames_needed its.size) kind.Reserve) (sym its.is) (release_turned p r its.first its.size kept.sound.regions its.is);
   no_log = λ e. differ is_log _ _ (sym e) refl refl;
   alike = subst (λ o. (ws : List ℕ) → length ws ≡ length p.words → Agree ws p → Agree (let_go (with_words p ws) o r).words (let_go p o r)) (sym its.is)
-      (λ ws long agree. left_alike p _ its.first (frames_needed its.size) kind.Reserve ws (release_turned p r its.first its.size kept.sound.regions its.is) agree (λ f low high e. ap is_replayed (lies_in p r its.first its.size f kept.sound.regions its.is low high)));
+      (λ ws long agree. left_alike p _ its.first (frames_needed its.size) kind.Reserve ws (release_turned p r its.first its.size kept.sound.regions its.is) agree (λ f low high e. ap keeps_words (lies_in p r its.first its.size f kept.sound.regions its.is low high)));
   codes = λ e. absurd (differ is_code _ _ (sym e) refl refl);
   regions = λ w f low high e. subst (λ o. SameFrame (let_go p o r).words p.words f) (sym its.is) (λ index under. refl);
 }

@@ -23,7 +23,8 @@ use Rattle.guard.specs.States.{State}
 use Rattle.guard.specs.Steps.{accepts, change_for, effect, is_accepted}
 use Rattle.guarantee.specs.Guarantee.{ClosedBytes, Event, Happens, Run, byte_at, releases, bytes_of_write, was_released}
 use Rattle.guarantee.proofs.Accepting.{Enacts, Kept, all_yes, is_write}
-use Rattle.guarantee.proofs.Frames.{differ, first_of, is_region, not_true, second_of}
+use Rattle.guard.proofs.Scanning.{not_not}
+use Rattle.guarantee.proofs.Frames.{differ, first_of, is_region, second_of}
 use Rattle.guarantee.proofs.Happenings.{by_answer, event_kept, run_kept}
 use Rattle.guarantee.proofs.Keeping.{writes_outside}
 use Rattle.guarantee.proofs.Places.{SameFrame, inside_or_outside}
@@ -242,7 +243,7 @@ run_same : {P : Type 0} (means : Meaning P) (events : List Event) (s t : State P
     → (region_of t.guarded.picture r ≡ Some (region.Live first size)) × (byte_at s first offset ≡ byte_at t first offset)
 run_same means [] s t r first size offset laws kept run at unreleased = (ap (λ x. region_of x.guarded.picture r) run ∙ at.live, ap (λ x. byte_at x first offset) (sym run))
 run_same means (e ∷ events) s t r first size offset laws kept run at unreleased =
-    let goes = event_goes means e s run.0 r first size offset laws kept run.1.0 at (not_true (was_released r e) (first_of _ _ unreleased)) in
+    let goes = event_goes means e s run.0 r first size offset laws kept run.1.0 at (not_not (was_released r e) (first_of _ _ unreleased)) in
     let rest = run_same means events run.0 t r first size offset laws (event_kept means e s run.0 laws kept run.1.0) run.1.1 goes.closed (second_of _ _ unreleased) in
     (rest.0, sym goes.same ∙ rest.1)
 

@@ -8,7 +8,7 @@ use Rattle.std.proofs.lemmas.Option.{same_Some, slice_get_within}
 use Rattle.journal.proofs.Fillings.{length_filled}
 use Rattle.journal.proofs.Staying.{none_live}
 use Rattle.journal.specs.Figures.{figure_questions}
-use Rattle.journal.specs.Pictures.{filled, is_code, is_table, new_picture, with_words}
+use Rattle.journal.specs.Pictures.{filled, is_code, is_table, new_picture, with_words, keeps_words}
 use Rattle.journal.specs.Playing.{start}
 use Rattle.journal.specs.Questions.{first_no}
 use Rattle.journal.specs.declared.figures.LogFigures.{LogFigures}
@@ -24,7 +24,7 @@ use Rattle.guard.specs.Orders.{questions}
 use Rattle.paging.specs.Questions.{access_questions}
 use Rattle.paging.specs.declared.faults.Access.TheVariants as access
 use Rattle.guarantee.proofs.Stepping.{fetches_code, stores_plain}
-use Rattle.guarantee.specs.Guarantee.{Event, Guaranteed, Laws, Run, is_replayed}
+use Rattle.guarantee.specs.Guarantee.{Event, Guaranteed, Laws, Run}
 use Rattle.guarantee.proofs.Accepting.{Agree, Kept, KeptBy, Yes, all_yes}
 use Rattle.guarantee.proofs.Closings.{closed_bytes}
 use Rattle.guarantee.proofs.Codes.{code_run}
@@ -119,9 +119,9 @@ new_told {P} words frames first count s whole is = record {
     zeros : List ℕ
     zeros = replicate (512 * frames) 0
 
-    no_frame : (frame : ℕ) (o : Option FrameKind) → slice_get (new_kinds frames first count) frame ≡ o → is_replayed o ≡ true → ⊥
+    no_frame : (frame : ℕ) (o : Option FrameKind) → slice_get (new_kinds frames first count) frame ≡ o → keeps_words o ≡ true → ⊥
     no_frame frame None e replayed = false≢true replayed
-    no_frame frame (Some k) e replayed = neither frames first count frame k (λ x. is_replayed (Some x)) e replayed refl refl
+    no_frame frame (Some k) e replayed = neither frames first count frame k (λ x. keeps_words (Some x)) e replayed refl refl
 
 -- What holds at the end of a run.
 laws_of : {P : Type 0} (means : Meaning P) (f : LogFigures) (events : List Event) (s t : State P) → Lawful means → Kept s → s.root ≡ None → ((frame : ℕ) → slice_get s.guarded.picture.kinds frame ≡ Some kind.Code → ⊥) → Told f [] s → Run means events s t → Laws means events s t

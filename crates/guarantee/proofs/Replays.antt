@@ -16,7 +16,7 @@ use Rattle.journal.proofs.Inverses.{empty_ends}
 use Rattle.journal.proofs.Playings.{records_none}
 use Rattle.journal.proofs.Joining.{inverse_of_all}
 use Rattle.journal.specs.Figures.{figure_questions}
-use Rattle.journal.specs.Pictures.{Picture, apply, follows, frames_needed, let_go, region_of, with_words, write_into}
+use Rattle.journal.specs.Pictures.{Picture, apply, follows, frames_needed, let_go, region_of, with_words, write_into, keeps_words}
 use Rattle.journal.specs.Playing.{apply_all, carried, encode_all, ending, outcome_after, outcome_from, outcome_of, picture_from, played, stopped, player_questions, records, start}
 use Rattle.journal.specs.Questions.{Question, first_no}
 use Rattle.journal.specs.Readings.{reading, ends}
@@ -37,7 +37,7 @@ use Rattle.guard.specs.Steps.{accepts, piece, stored}
 use Rattle.guard.specs.Calls.{Request, declare, retire, take, write, release, accept, unaccept, load_register, load_root, load, store, fetch, drain}
 use Rattle.guard.specs.Calls as request
 use Rattle.guard.specs.declared.calls.Answer.{Answer}
-use Rattle.guarantee.specs.Guarantee.{Event, Happens, Replay, Run, figures_of, is_replayed, journal_of, pieces}
+use Rattle.guarantee.specs.Guarantee.{Event, Happens, Replay, Run, figures_of, journal_of, pieces}
 use Rattle.guarantee.proofs.Accepting.{Agree, Enacts, Kept, Yes, all_yes}
 use Rattle.guarantee.proofs.Frames.{both, differ, is_log}
 use Rattle.guarantee.proofs.Happenings.{by_answer, event_kept}
@@ -206,7 +206,7 @@ pieces_on events e = flat_map-append (λ d. d.copied) events (e ∷ []) ∙ ap (
 
 -- Where the journal of a run is the same after an event, and so is all else that is told, it is told as before.
 told_same : {P : Type 0} (f : LogFigures) (events : List Event) (e : Event) (s u : State P) → Told f events s → e.copied ++ held_words u.guarded ≡ held_words s.guarded → (vs : List ℕ) → u.guarded.picture ≡ with_words s.guarded.picture vs
-    → length vs ≡ length s.guarded.picture.words → ((frame : ℕ) → is_replayed (slice_get s.guarded.picture.kinds frame) ≡ true → SameFrame s.guarded.picture.words vs frame)
+    → length vs ≡ length s.guarded.picture.words → ((frame : ℕ) → keeps_words (slice_get s.guarded.picture.kinds frame) ≡ true → SameFrame s.guarded.picture.words vs frame)
     → figures_of u ≡ figures_of s → Told f (events ++ e ∷ []) u
 told_same f events e s u told journal vs picture long same figures = record {
   changes = told.changes;
@@ -253,7 +253,7 @@ told_more f events e s u c told kept enacts silent is = record {
   long = ap length refl ∙ made_long ∙ ap (λ g. length g.picture.words) (sym is);
   agree = subst (λ g. Agree ws g.picture) (sym is) (λ frame replayed index low.
       enacts.alike told.ws told.long told.agree frame replayed index low
-      ∙ sym (noting_out m s.root s.guarded.first_log s.guarded.logs s.guarded.held (encode c) enacts.sound enacts.room frame (λ log. false≢true (sym (ap is_replayed log) ∙ replayed)) index low));
+      ∙ sym (noting_out m s.root s.guarded.first_log s.guarded.logs s.guarded.held (encode c) enacts.sound enacts.room frame (λ log. false≢true (sym (ap keeps_words log) ∙ replayed)) index low));
   figures = ap (λ g. figures_by g) is ∙ ap (λ n. record { frames = n; first = s.guarded.first_log; count = s.guarded.logs }) enacts.turned.kinds ∙ told.figures;
 }
   where
@@ -299,7 +299,7 @@ told_view f events e s u told kept granted copies (stored_at r address value pla
     told_same f events e s u told
     (ap (λ l. l ++ held_words u.guarded) (copies ∙ silent e.answer) ∙ ap held_words is ∙ words_same after p.words (512 * s.guarded.first_log) s.guarded.held held)
     after (ap (λ g. g.picture) is) (length-set p.words (place_reached p.words r address) value)
-    (λ frame replayed index low. sym (store_out p.words r address value frame (λ same. false≢true (sym (ap is_replayed (ap (slice_get p.kinds) same ∙ plain)) ∙ replayed)) index low))
+    (λ frame replayed index low. sym (store_out p.words r address value frame (λ same. false≢true (sym (ap keeps_words (ap (slice_get p.kinds) same ∙ plain)) ∙ replayed)) index low))
     (ap figures_by is)
   where
     p : Picture

@@ -9,7 +9,8 @@ use Rattle.paging.specs.Entries.{entry_at, present}
 use Rattle.paging.specs.Walks.{Leads, Translates, all_executable, all_present, all_writable, permits, entry_on, on_all, page_of, table_at}
 use Rattle.paging.specs.declared.faults.Access.{Access}
 use Rattle.paging.specs.declared.faults.Access.TheVariants.{Store, Fetch}
-use Rattle.guarantee.proofs.Frames.{first_of, not_true, second_of}
+use Rattle.guard.proofs.Scanning.{not_not}
+use Rattle.guarantee.proofs.Frames.{first_of, second_of}
 use Rattle.guarantee.proofs.Sounds.{Names, Sound, below}
 
 -- An index is below 512.
@@ -43,7 +44,7 @@ store_plain p r first_log logs address frame sound walk =
 
 pub fetch_code : (p : Picture) (r first_log logs address frame : ℕ) → Sound p (Some r) first_log logs → Translates p.words r address frame Fetch → slice_get p.kinds frame ≡ Some kind.Code
 fetch_code p r first_log logs address frame sound walk =
-    ap (slice_get p.kinds) (sym walk.from_first.names) ∙ (names p _ first_log logs address Fetch One walk.first frame sound (last_table p r first_log logs address frame Fetch sound walk) walk.from_first).code refl (not_true _ walk.from_first.is_permitted)
+    ap (slice_get p.kinds) (sym walk.from_first.names) ∙ (names p _ first_log logs address Fetch One walk.first frame sound (last_table p r first_log logs address frame Fetch sound walk) walk.from_first).code refl (not_not _ walk.from_first.is_permitted)
 
 -- What passes at all levels passes at each.
 at_level : (test : Level → Bool) → on_all test ≡ true → (level : Level) → test level ≡ true

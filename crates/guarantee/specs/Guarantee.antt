@@ -1,14 +1,13 @@
 -- The guarantee: what holds of a machine after any list of calls, accepted or refused, and of any length.
 --
---   bytes_of_write   the bytes that a write is supplied with
 --   Event            a call that was carried out, its answer, and the words that it copied out
+--   bytes_of_write   the bytes that a write is supplied with
 --   Happens          that an event made of one machine another
 --   Run              that events did, one after the other
 --   Protection       that stores reach plain frames alone, and fetches code frames alone
 --   Unchanged        that an accepted accept made a frame code, and that its words have been the same ever since
 --   pieces, journal_of   the drained pieces of a run; and its journal, which is these and the words that are held
 --   figures_of       the figures of a machine
---   is_replayed      whether playing gives a frame's words
 --   Replay           that playing the journal of a run gives the frames of the machine
 --   releases, was_released   whether a call is a release of a region, and whether an event is one that was accepted
 --   byte_at          a byte of a region
@@ -18,7 +17,7 @@
 use Rattle.std.specs.Prelude.{◌≡◌, ℕ, ◌+◌, ◌*◌, ◌<◌, ◌≤◌, Bool, true, false, not, ◌&&◌, List, [], ◌∷◌, ◌++◌, length, flat_map, Some, Option, ◌==◌}
 use Rattle.std.specs.List.{list_all}
 use Rattle.journal.specs.Bytes.{are_bytes, byte_in}
-use Rattle.journal.specs.Pictures.{region_of}
+use Rattle.journal.specs.Pictures.{region_of, keeps_words}
 use Rattle.journal.specs.Playing.{picture_from, played, playing, start}
 use Rattle.journal.specs.declared.figures.LogFigures.{LogFigures}
 use Rattle.journal.specs.declared.kinds.FrameKind.{FrameKind}
@@ -92,13 +91,6 @@ journal_of events t = pieces events ++ held_words t.guarded
 abbrev pub figures_of : {P : Type 0} → State P → LogFigures
 figures_of t = record { frames = length t.guarded.picture.kinds; first = t.guarded.first_log; count = t.guarded.logs }
 
--- Frames whose words a replay gives: tables, and frames that are or were a region's.
-abbrev pub is_replayed : Option FrameKind → Bool
-is_replayed (Some (kind.Table level)) = true
-is_replayed (Some kind.Region) = true
-is_replayed (Some kind.Reserve) = true
-is_replayed other = false
-
 -- The player, given the figures of the machine s with which the run began, plays the journal from zeros to its end, whatever lists it is lent that are long enough; and
 -- what it gives agrees with the machine t in the kind of every frame, and in every word of each frame that is a table, a region's or reserve.
 pub record Replay {P : Type 0} (events : List Event) (s t : State P) : Type 0 where
@@ -106,7 +98,7 @@ pub record Replay {P : Type 0} (events : List Event) (s t : State P) : Type 0 wh
   pub plays : (words : List ℕ) (kinds : List FrameKind) → 512 * length s.guarded.picture.kinds ≤ length words → length s.guarded.picture.kinds ≤ length kinds
       → playing (figures_of s) (journal_of events t) words kinds ≡ played records
   pub kinds : (picture_from (start (figures_of s)) (journal_of events t)).kinds ≡ t.guarded.picture.kinds
-  pub words : (frame : ℕ) → is_replayed (kind_of t.guarded frame) ≡ true
+  pub words : (frame : ℕ) → keeps_words (kind_of t.guarded frame) ≡ true
       → frame_words (picture_from (start (figures_of s)) (journal_of events t)).words frame ≡ frame_words t.guarded.picture.words frame
 
 -- An event is a release of the region, and was accepted.

@@ -4,6 +4,7 @@ use Rattle.std.proofs.lemmas.Bool.{cases_Bool, cases_eq, false≢true}
 use Rattle.std.proofs.lemmas.Bool.Decides.{nat_tests}
 use Rattle.std.proofs.lemmas.Option.{same_Some, slice_get_within}
 use Rattle.std.specs.Prelude.{IsTrue, ◌==◌}
+use Rattle.journal.proofs.Inverses.{of_level}
 use Rattle.journal.specs.Kinds.{level_number, level_of}
 use Rattle.journal.specs.declared.kinds.FrameKind.TheVariants as kind
 use Rattle.journal.specs.declared.kinds.Level.TheVariants.{One, Two, Three, Four}
@@ -118,16 +119,10 @@ all_pass test zero each = refl
 all_pass test (suc n) each = (λ i. all_pass test n (λ k low. each k (omega (arith, low))) i && each n (omega arith) i)
 
 -- Levels of one number are one.
-level_back : (l : Level) → level_of (level_number l) ≡ Some l
-level_back One = refl
-level_back Two = refl
-level_back Three = refl
-level_back Four = refl
-
 same_level : (l m : Level) → (level_number l == level_number m) ≡ true → l ≡ m
 same_level l m e =
     let number : level_number l ≡ level_number m = grind (arith, nat_tests, e) in
-    same_Some l m (sym (level_back l) ∙ ap level_of number ∙ level_back m)
+    same_Some l m (sym (of_level l) ∙ ap level_of number ∙ of_level m)
 
 is_itself : (l : Level) → (level_number l == level_number l) ≡ true
 is_itself One = refl
@@ -135,7 +130,7 @@ is_itself Two = refl
 is_itself Three = refl
 is_itself Four = refl
 
-not_not : (b : Bool) → not b ≡ true → b ≡ false
+pub not_not : (b : Bool) → not b ≡ true → b ≡ false
 not_not true e = absurd (false≢true e)
 not_not false e = refl
 

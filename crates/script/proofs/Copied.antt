@@ -5,26 +5,11 @@ use Rattle.std.proofs.lemmas.List.FromFn.{length-map-range_with_len}
 use Rattle.guard.specs.Calls.{request_of}
 use Rattle.guard.specs.Guarding.{words_from}
 use Rattle.guard.specs.States.{State}
-use Rattle.guard.specs.Steps.{is_accepted}
+use Rattle.guard.specs.Steps.{is_accepted, piece}
+use Rattle.guard.specs.declared.calls.Answer.TheVariants.{Done}
 use Rattle.guard.specs.declared.calls.Call.{Call}
-use Rattle.guard.specs.declared.calls.Call.TheVariants as call
-use Rattle.script.specs.Machines.{Policies, call_words, policies, to_copy}
-
--- no call of the program but a drain is to copy any word
-none_to_copy : (c : Call) (s : State Policies) → to_copy (request_of c) s ≡ []
-none_to_copy (call.Declare frame level) s = cc
-none_to_copy (call.Set table index entry) s = cc
-none_to_copy (call.Retire frame) s = cc
-none_to_copy (call.Take region first n) s = cc
-none_to_copy (call.Write region offset bytes) s = cc
-none_to_copy (call.Release region) s = cc
-none_to_copy (call.Accept frame) s = cc
-none_to_copy (call.Unaccept frame) s = cc
-none_to_copy (call.LoadRegister register value) s = cc
-none_to_copy (call.LoadRoot value) s = cc
-none_to_copy (call.Load address) s = cc
-none_to_copy (call.Store address value) s = cc
-none_to_copy (call.Fetch address) s = cc
+use Rattle.machine.proofs.Running.{quiet}
+use Rattle.script.specs.Machines.{Policies, call_words, policies}
 
 -- of no words there is nothing to copy, whether the call is accepted or not
 either : (b : Bool) (ws : List ℕ) → ws ≡ [] → cond b ws [] ≡ []
@@ -34,7 +19,7 @@ either false ws e = cc
 -- so such a call copies none
 pub nothing_copied : (c : Call) (s : State Policies) → call_words (request_of c) s ≡ []
 unfolding call_words
-nothing_copied c s = either (is_accepted policies (request_of c) s) (to_copy (request_of c) s) (none_to_copy c s)
+nothing_copied c s = either (is_accepted policies (request_of c) s) (piece (request_of c) Done s) (quiet c Done s)
 
 -- as many words as are held
 pub held_long : (words : List ℕ) (at n : ℕ) → length (words_from words at n) ≡ n

@@ -3,7 +3,7 @@
 --   Policies, policies, new_policies    the policies side by side, what they mean, and new ones
 --   log_figures, new_machine            the figures of a machine, and a new one
 --   call_number, call_stop, call_word   what is told of a call: the number of its refusal, where its walk ended, its word,
---   call_count, to_copy, call_words     how many words it copied out, and which
+--   call_count, call_words     how many words it copied out, and which
 --   call_after                          what a call makes of the machine
 --   call_text, copied_text              what is printed of the first four, and of the words
 --   made_text, parts_text               and of making a machine, and of the parts of an address
@@ -11,10 +11,10 @@
 -- Made of: `frames_shown`, `refused_text`.
 use Rattle.std.specs.Prelude.{ℕ, ◌/◌, true, cond, List, [], ◌++◌, ◌==◌, length, replicate, Some, None, codes, decimal, Option}
 use Rattle.guard.specs.Calls.{Request, drain}
-use Rattle.guard.specs.Guarding.{held_words}
 use Rattle.guard.specs.Orders.{questions}
 use Rattle.guard.specs.States.{State, new_state}
-use Rattle.guard.specs.Steps.{counted, effect, is_accepted, read, stopped}
+use Rattle.guard.specs.Steps.{counted, effect, is_accepted, piece, read, stopped}
+use Rattle.guard.specs.declared.calls.Answer.TheVariants.{Done}
 use Rattle.journal.specs.Kinds.{level_number}
 use Rattle.journal.specs.Questions.{first_no}
 use Rattle.journal.specs.declared.figures.LogFigures.{LogFigures}
@@ -69,14 +69,9 @@ call_word q s = cond (is_accepted policies q s) (read q s) None
 unfoldable pub call_count : Request → State Policies → Option ℕ
 call_count q s = cond (is_accepted policies q s) (counted q s) None
 
--- the words that a drain is to copy out: all that are held; no other call copies any
-abbrev pub to_copy : Request → State Policies → List ℕ
-to_copy (drain room) s = held_words s.guarded
-to_copy other s = []
-
--- the words that a call copies out: a refused one copies none
+-- the words that a call copies out: a refused one copies none, and an accepted one what it copies where its answer is no refusal
 unfoldable pub call_words : Request → State Policies → List ℕ
-call_words q s = cond (is_accepted policies q s) (to_copy q s) []
+call_words q s = cond (is_accepted policies q s) (piece q Done s) []
 
 -- the machine after a call: a refused one changes nothing
 unfoldable pub call_after : Request → State Policies → State Policies

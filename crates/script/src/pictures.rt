@@ -2,7 +2,8 @@
 ghost use Rattle.std.specs.Prelude.{◌≡◌, ◌&&◌, drop, take, vec_items, Some};
 ghost use Rattle.std.specs.List.{list_any};
 ghost use Rattle.journal.specs.Playing.{fault_says};
-ghost use Rattle.script.specs.Pictures.{frames_text, may_be_listed, kinds_text, nonzero, outcome_text, picture_text, played_text, words_text};
+ghost use Rattle.journal.specs.Pictures.{keeps_words};
+ghost use Rattle.script.specs.Pictures.{frames_text, kinds_text, nonzero, outcome_text, picture_text, played_text, words_text};
 
 use journal::faults::PlayFault;
 use journal::kinds::FrameKind;
@@ -43,8 +44,8 @@ impl fmt::Display for FrameWords<'_> {
 }
 
 // Whether a frame of that kind is a table, of a region or a reserve frame.
-fn may_be_listed(kind: FrameKind) -> bool
-    ensures { result ≡ may_be_listed (Some kind) }
+fn keeps_words(kind: FrameKind) -> bool
+    ensures { result ≡ keeps_words (Some kind) }
 {
     matches!(
         kind,
@@ -61,9 +62,9 @@ fn any_nonzero(words: &[u64]) -> bool
 
 // Whether a frame of that kind with these words is listed.
 fn is_listed(kind: FrameKind, words: &[u64]) -> bool
-    ensures { result ≡ (may_be_listed (Some kind) && list_any nonzero words.now) }
+    ensures { result ≡ (keeps_words (Some kind) && list_any nonzero words.now) }
 {
-    may_be_listed(kind) && any_nonzero(words)
+    keeps_words(kind) && any_nonzero(words)
 }
 
 // The words of frames, and the kind of each.

@@ -65,9 +65,6 @@ pub word_at-zero : (t : List ℕ) → word_at t 0 ≡ first_word t
 unfolding after_words
 word_at-zero t = refl
 
-pub word_at-suc : (t : List ℕ) (n : ℕ) → word_at t (n + 1) ≡ word_at (after_word t) n
-word_at-suc t n = ap (λ k. word_at t k) (add-one n) ∙ ap first_word (after_words-suc n t)
-
 -- the words that lie in a text are found at their places
 pub find : (ws : List (List ℕ)) (t : List ℕ) (n : ℕ) → Laid ws t → word_at t n ≡ get_or ws n []
 find [] t zero l = word_at-zero t ∙ ap (before_first blank) (none_left t l)
