@@ -1,6 +1,6 @@
 #!/usr/bin/env python3
 """Brings the names of this repository's definitions and lemmas to one spelling: words in snake case, types in camel case,
-and a dash only between two names, as in `length-words_of`. Run once at the top of the repository, after the kit's port.py.
+and a dash only between two names, as in `length-words_of`. Run once at the top of the repository, after the script of the older kit that respells the library's words.
 
 It goes by whole names: no function of src/, string, input or output has one of these. `behind-set` and `shown-set` stay, since
 their dash joins two names."""

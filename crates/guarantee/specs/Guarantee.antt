@@ -101,11 +101,12 @@ pub record Replay {P : Type 0} (events : List Event) (s t : State P) : Type 0 wh
   pub words : (frame : ℕ) → keeps_words (kind_of t.guarded frame) ≡ true
       → frame_words (picture_from (start (figures_of s)) (journal_of events t)).words frame ≡ frame_words t.guarded.picture.words frame
 
--- An event is a release of the region, and was accepted.
+-- A call is a release of the region.
 abbrev pub releases : ℕ → Request → Bool
 releases region (release r) = r == region
 releases region other = false
 
+-- An event is such a release, and was accepted.
 abbrev pub was_released : ℕ → Event → Bool
 was_released region e = releases region e.call && accepts e.answer
 

@@ -37,7 +37,7 @@ pub struct Machine<M, P> {
 }
 
 impl<M: Memory, P: Policy> Machine<M, P> {
-    // Such a machine; that it is one is all that is said of it.
+    // The machine that `new` makes, without the guarantee: what is proved of it there follows from this.
     fn made(memory: M, policy: P, first: u64, count: u64) -> Machine<M, P>
         ensures whole { length (M.words memory) ≡ 512 * M.size memory }
         ensures is { state_of M.words result ≡ new_state (M.words memory) (M.size memory) first count policy }

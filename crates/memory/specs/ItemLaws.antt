@@ -12,7 +12,7 @@ use Rattle.memory.specs.Memories.{behind, frames_in}
 
 module _ {Item : Type 0} {n : ℕ} {word : List Item → ℕ} {items : ℕ → List Item} {nought : Item} {words : List Item → List ℕ} {put : List Item → ℕ → ℕ → List Item}
     (item : IsItem n word items nought words put) where
-  -- A list has room for the items of each word that it item.
+  -- A list has room for the items of each word that it shows.
   room : (list : List Item) (i : ℕ) → i < 512 * frames_in (512 * n) list → n * i + n ≤ length list
   room list i inside =
       let whole : length list / (512 * n) * (512 * n) ≤ length list = div-mul-le_self (length list) (512 * n) in

@@ -3,7 +3,7 @@
 --   named                   the frame that a table's entry for the address names
 --   table_at, entry_on      the table and the entry that are read at a level
 --   page_of                 the frame that is reached
---   passes                  whether an entry passes the test that one with a lack fails
+--   passes                  whether an entry has what that lack is the want of
 --   permits, lack_of        whether an entry permits an access, and what it lacks where it does not
 --   on_all, first_failing   of a test of each level: whether all pass, and the first from 4 down that fails
 --   all_present, all_writable, all_executable   of the four entries that a walk reads
@@ -45,7 +45,7 @@ entry_on words root address level = entry_at words (table_at words root address 
 abbrev pub page_of : List ℕ → ℕ → ℕ → ℕ
 page_of words root address = frame_of (entry_on words root address One)
 
--- The entry passes the test that one with that lack fails.
+-- The entry has what that lack is the want of.
 abbrev pub passes : Lack → ℕ → Bool
 passes Absent entry = present entry
 passes ReadOnly entry = writable entry

@@ -30,6 +30,7 @@ register_of name =
     (cond (bytes_eq name (codes "cr4")) (Some Cr4)
     (cond (bytes_eq name (codes "efer")) (Some Efer) None))
 
+-- and the name of each
 abbrev pub register_name : Register → List ℕ
 register_name Cr0 = codes "cr0"
 register_name Cr4 = codes "cr4"
@@ -59,7 +60,7 @@ short_call_of name t =
 unfoldable pub write_of : List ℕ → Option Request
 write_of t = option_and_then (λ r. option_and_then (λ o. option_and_then (λ bs. only t 3 (write r o bs)) (bytes_of (word_at t 2))) (decimal_at t 1)) (decimal_at t 0)
 
--- all calls
+-- all calls but a drain
 abbrev pub asked_of : List ℕ → List ℕ → Option Request
 asked_of name t = cond (bytes_eq name (codes "write")) (write_of t) (short_call_of name t)
 

@@ -217,6 +217,7 @@ abbrev pub is_machined : Basis → Bool
 is_machined (supplied ws) = false
 is_machined (machined f s) = true
 
+-- and over what was set up, if anything was
 abbrev pub has_machine : Option Held → Bool
 has_machine None = false
 has_machine (Some h) = is_machined h.basis
