@@ -1,11 +1,11 @@
 -- The marked figures hold.
-use Rattle.std.proofs.Common.{◌≡◌, ℕ, zero, suc, ◌+◌, Bool, true, false, ◌&&◌, cond, if◌then◌else◌, [], ◌∷◌, Some, None, is_some, refl, ap, sym, ◌∙◌}
+use Rattle.std.proofs.Common.{◌≡◌, ℕ, zero, suc, ◌+◌, Bool, true, false, ◌&&◌, if◌then◌else◌, [], ◌∷◌, Some, None, is_some, refl, ap, sym, ◌∙◌}
 use Rattle.std.proofs.lemmas.Bool.{false≢true}
 use Rattle.memory.specs.ByteOrder.{word_of}
 use Rattle.journal.specs.Bytes.{bytes_in, packed}
 use Rattle.paging.specs.declared.faults.Access.{Access}
 use Rattle.paging.specs.declared.faults.Access.TheVariants.{Load, Store, Fetch}
-use Rattle.policy.specs.Kinds.{alone, append_only_close, append_only_openness, append_only_opens, below, kind_after, write_once_opens}
+use Rattle.policy.specs.Kinds.{append_only_close, append_only_opens, below, write_once_opens}
 use Rattle.policy.specs.Policies.{all_open, permitted}
 use Rattle.policy.specs.Spans.{is_span, span_of}
 use Rattle.policy.specs.declared.append_only.AppendOnly.{AppendOnly}

@@ -6,7 +6,7 @@
 --   behind      what of a line stands behind one that is expected
 --   agrees      whether a printed line is the expected one, but for the place of a walk's fault
 --   Expected    the same in the subject's words
-use Rattle.std.specs.Prelude.{◌≡◌, ℕ, Bool, true, false, ◌&&◌, ◌||◌, ◌==◌, ◌⊎◌, IsTrue, List, [], ◌++◌, codes, drop, length, take, nat_le, Some, None, Option, is_some}
+use Rattle.std.specs.Prelude.{◌≡◌, ℕ, Bool, false, ◌&&◌, ◌||◌, ◌==◌, ◌⊎◌, IsTrue, List, [], ◌++◌, codes, drop, length, take, nat_le, Some, None, Option, is_some}
 use Rattle.std.specs.Str.{bytes_eq}
 use Rattle.text.specs.Lines.{word_at}
 use Rattle.text.specs.Numbers.{number_of}

@@ -4,7 +4,7 @@
 --   appended                      an append-only policy that was told of a write
 --   Refuses40                     that an access is refused with 40
 --   Figures                       all of the figures
-use Rattle.std.specs.Prelude.{◌≡◌, ℕ, Bool, true, false, List, [], ◌∷◌, Option, Some}
+use Rattle.std.specs.Prelude.{◌≡◌, ℕ, true, false, List, [], ◌∷◌, Option, Some}
 use Rattle.journal.specs.Pictures.{frames_needed}
 use Rattle.journal.specs.Questions.{first_no}
 use Rattle.journal.specs.Records.{encode, taken, written}

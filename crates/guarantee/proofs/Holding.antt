@@ -14,8 +14,6 @@ use Rattle.journal.specs.Questions.{first_no}
 use Rattle.journal.specs.declared.figures.LogFigures.{LogFigures}
 use Rattle.journal.specs.declared.kinds.FrameKind.{FrameKind}
 use Rattle.journal.specs.declared.kinds.FrameKind.TheVariants as kind
-use Rattle.journal.specs.declared.regions.RegionState.{RegionState}
-use Rattle.journal.specs.declared.regions.RegionState.TheVariants as region
 use Rattle.policy.specs.Policies.{Lawful, Meaning}
 use Rattle.guard.specs.Guarding.{held_words}
 use Rattle.guard.specs.States.{State, good, new_guarded, new_state}

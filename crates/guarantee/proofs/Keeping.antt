@@ -1,11 +1,11 @@
 -- Each change of a picture leaves sound what was sound, where its questions had a yes.
-use Rattle.std.proofs.Common.{◌≡◌, ℕ, ◌+◌, ◌-◌, ◌*◌, ◌/◌, ◌<◌, ◌≤◌, Bool, true, false, ◌⊎◌, inl, inr, ⊎_elim, List, [], ◌∷◌, length, set, slice_get, slice_index, Option, Some, None, refl, sym, subst, ap, ◌∙◌, arith}
+use Rattle.std.proofs.Common.{◌≡◌, ℕ, ◌+◌, ◌-◌, ◌*◌, ◌<◌, ◌≤◌, Bool, true, false, ◌⊎◌, inl, inr, ⊎_elim, List, length, set, slice_get, slice_index, Option, Some, None, refl, sym, subst, ap, ◌∙◌, arith}
 use Rattle.std.proofs.lemmas.Bool.{cases_eq, false≢true}
 use Rattle.std.proofs.lemmas.List.{length-set}
 use Rattle.std.proofs.lemmas.Option.{same_Some, slice_get_within}
 use Rattle.journal.proofs.Fillings.{length_filled}
 use Rattle.journal.proofs.Staying.{first_frame, length_put, live_state, region_size, set_found}
-use Rattle.journal.specs.Pictures.{Picture, apply, can_be_taken, filled, frames_needed, is_code, is_plain, is_table, put_byte, put_bytes, region_of, with_words, let_go}
+use Rattle.journal.specs.Pictures.{Picture, apply, can_be_taken, filled, frames_needed, is_code, is_plain, is_table, put_bytes, region_of, with_words, let_go}
 use Rattle.journal.specs.Records.{declared, retired, taken, accepted, unaccepted}
 use Rattle.journal.specs.declared.kinds.FrameKind.{FrameKind}
 use Rattle.journal.specs.declared.kinds.FrameKind.TheVariants as kind

@@ -1,7 +1,6 @@
 -- What changes of lists leave at a place: kinds of frames, and words of frames.
 use Rattle.std.proofs.Common.{◌≡◌, ℕ, zero, suc, ◌+◌, ◌-◌, ◌*◌, ◌/◌, ◌%◌, ◌<◌, ◌≤◌, ◌⊎◌, inl, inr, ⊎_elim, List, [], ◌∷◌, length, set, slice_get, slice_index, Some, refl, sym, ap, ◌∙◌, arith}
-use Rattle.std.proofs.lemmas.Bool.{cases_eq, cases_lt, cases_order}
-use Rattle.std.proofs.lemmas.Option.{same_Some, slice_get_within}
+use Rattle.std.proofs.lemmas.Bool.{cases_lt, cases_order}
 use Rattle.std.proofs.lemmas.Grind.{same_number_lists}
 use Rattle.std.proofs.lemmas.List.{get_or-set_other, get_or-set_same, length-set}
 use Rattle.std.proofs.lemmas.List.FromFn.{get_or-map-range_with_len, length-map-range_with_len}
@@ -12,7 +11,7 @@ use Rattle.journal.proofs.Fillings.{length_filled}
 use Rattle.journal.proofs.Staying.{get_set_other, get_set_same}
 use Rattle.scanner.specs.Rule.{bytes_of_words, passing}
 use Rattle.paging.specs.Entries.{entry_at}
-use Rattle.guard.specs.Guarding.{put_words, words_from}
+use Rattle.guard.specs.Guarding.{words_from}
 use Rattle.guard.specs.Scans.{frame_words, scanned}
 
 -- A place is outside n places from one on.

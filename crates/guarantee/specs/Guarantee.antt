@@ -14,7 +14,7 @@
 --   ClosedBytes      that a byte that was closed is the same later
 --   Laws             all of these
 --   Guaranteed       that they hold of every run
-use Rattle.std.specs.Prelude.{◌≡◌, ℕ, ◌+◌, ◌*◌, ◌<◌, ◌≤◌, Bool, true, false, not, ◌&&◌, List, [], ◌∷◌, ◌++◌, length, flat_map, Some, Option, ◌==◌}
+use Rattle.std.specs.Prelude.{◌≡◌, ℕ, ◌+◌, ◌*◌, ◌<◌, ◌≤◌, Bool, true, false, not, ◌&&◌, List, [], ◌∷◌, ◌++◌, length, flat_map, Some, ◌==◌}
 use Rattle.std.specs.List.{list_all}
 use Rattle.journal.specs.Bytes.{are_bytes, byte_in}
 use Rattle.journal.specs.Pictures.{region_of, keeps_words}

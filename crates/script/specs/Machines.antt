@@ -10,7 +10,7 @@
 --
 -- Made of: `frames_shown`, `refused_text`.
 use Rattle.std.specs.Prelude.{ℕ, ◌/◌, true, cond, List, [], ◌++◌, ◌==◌, length, replicate, Some, None, codes, decimal, Option}
-use Rattle.guard.specs.Calls.{Request, drain}
+use Rattle.guard.specs.Calls.{Request}
 use Rattle.guard.specs.Orders.{questions}
 use Rattle.guard.specs.States.{State, new_state}
 use Rattle.guard.specs.Steps.{counted, effect, is_accepted, piece, read, stopped}
