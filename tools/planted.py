@@ -5,12 +5,16 @@ Run at the top of the repository, with the names of crates or with none for all.
 has to be refused, with its first error in src/; the last line says how many were.
 """
 
-import os
 import pathlib
 import shutil
 import subprocess
 import sys
 import tempfile
+
+
+def folders(top):
+    """The folders of edits, one for each crate that has some."""
+    return sorted(it for it in (top / "tools" / "planted").iterdir() if it.is_dir())
 
 
 def copied(top, room):
@@ -20,14 +24,14 @@ def copied(top, room):
     shutil.copytree(top, place, ignore=skipped)
     for crate in (place / "crates").iterdir():
         shutil.rmtree(crate / "must-fail", ignore_errors=True)
-    for edits in (place / "tools" / "planted").iterdir():
+    for edits in folders(place):
         edits.rename(place / "crates" / edits.name / "must-fail")
     return place
 
 
 def main(names):
     top = pathlib.Path.cwd()
-    crates = names or sorted(it.name for it in top.glob("tools/planted/*"))
+    crates = names or [it.name for it in folders(top)]
     wanted = sum(len(list(top.glob(f"tools/planted/{it}/*.edit"))) for it in crates)
     with tempfile.TemporaryDirectory() as room:
         place = copied(top, room)

@@ -5,3 +5,4 @@ pub mod Frames
 pub mod Told
 pub mod NewPolicies
 pub mod Copied
+pub mod Numbers

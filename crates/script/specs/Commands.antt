@@ -6,9 +6,9 @@
 --   reading         what a whole line comes to
 --   asks_for_list   whether a line is to be read as a command with a list
 --
--- Made of: `kind_name`, `set_apart`, `kind_of`, `most`, `memory_of`, `word_of`, `machine_of`, `drain_of`, `scan_of`, `split_of`, `numbers_behind`,
+-- Made of: `kind_name`, `set_apart`, `kind_of`, `most`, `memory_of`, `word_of`, `machine_of`, `drain_of`, `scan_of`, `split_of`, `numbers_behind`, `is_hexadecimal`,
 -- `some_numbers`, `journal_of`, `records_of`, `play_of`, `spelled`, `takes_list`.
-use Rattle.std.specs.Prelude.{ℕ, Bool, cond, ◌||◌, List, [], ◌∷◌, ◌++◌, length, Some, None, vec_items, codes, decimal, Option, ◌==◌, nat_le}
+use Rattle.std.specs.Prelude.{ℕ, Bool, is_some, cond, ◌||◌, List, [], ◌∷◌, ◌++◌, length, Some, None, vec_items, codes, decimal, Option, ◌==◌, nat_le}
 use Rattle.std.specs.Option.{option_and_then, option_map}
 use Rattle.std.specs.List.{flat_map}
 use Rattle.std.specs.Str.{bytes_eq}
@@ -109,6 +109,10 @@ split_of t = option_map split (one_word t)
 unfoldable pub numbers_behind : List ℕ → List (List ℕ) → Option (List ℕ)
 numbers_behind ns [] = Some ns
 numbers_behind ns (w ∷ ws) = option_and_then (λ n. numbers_behind (ns ++ n ∷ []) ws) (number_of 16 w)
+
+-- a word writes a number in hexadecimal
+abbrev pub is_hexadecimal : List ℕ → Bool
+is_hexadecimal w = is_some (number_of 16 w)
 
 -- one number or more
 abbrev pub some_numbers : List ℕ → Option Said

@@ -1,5 +1,5 @@
 // The calls on a machine that a script can ask for.
-ghost use Rattle.std.specs.Prelude.{◌≡◌, codes, IsTrue, Some};
+ghost use Rattle.std.specs.Prelude.{◌≡◌, codes, is_some, IsTrue, Some};
 ghost use Rattle.std.specs.Option.{option_map};
 ghost use Rattle.std.specs.Str.{bytes_eq};
 ghost use Rattle.guard.specs.Calls.{request_of};
@@ -163,19 +163,21 @@ fn register(name: &[u8]) -> Option<Register>
 // write REGION OFFSET BYTES: the words behind the first
 #[tactic(auto, unfolding(crate::specs::Calls::write_of, text::specs::Lines::after_words))]
 fn write_call(heap: Global, words: &mut Words<'_>) -> Result<Asked, Unread>
-    ensures { Gives asked result (write_of words.old) }
+    ensures wants { IsTrue (wants_memory result) → IsTrue (is_some (write_of words.old)) }
+    ensures gives { Gives asked result (write_of words.old) }
 {
     let region = decimal(next_word(words)).ok_or(Unread::Unreadable)?;
     let offset = decimal(next_word(words)).ok_or(Unread::Unreadable)?;
-    let bytes = bytes(heap, next_word(words))?;
-    if ends(words) {
-        return Ok(Asked::Write {
-            region,
-            offset,
-            bytes,
-        });
+    let word = next_word(words);
+    if !ends(words) {
+        return Err(Unread::Unreadable);
     }
-    Err(Unread::Unreadable)
+    let bytes = bytes(heap, word)?;
+    Ok(Asked::Write {
+        region,
+        offset,
+        bytes,
+    })
 }
 
 // The load of a register, or the access, of that name, with the words behind it.
@@ -250,7 +252,7 @@ fn short_call(name: &[u8], words: &mut Words<'_>) -> Option<Call<'static>>
 
 // The call of that name, with the words behind it.
 pub(crate) fn call_named(heap: Global, name: &[u8], words: &mut Words<'_>) -> Result<Asked, Unread>
-    ensures wants { IsTrue (wants_memory result) → IsTrue (bytes_eq name.now (codes "write")) }
+    ensures wants { IsTrue (wants_memory result) → IsTrue (bytes_eq name.now (codes "write")) × IsTrue (is_some (asked_of name.now words.old)) }
     ensures gives { Gives asked result (asked_of name.now words.old) }
 {
     if name == WRITE {

@@ -1,7 +1,8 @@
 // The commands of a script, and how a line is read into one.
-ghost use Rattle.std.specs.Prelude.{◌≡◌, ◌==◌, false, [], length, vec_items, IsTrue, Some};
+ghost use Rattle.std.specs.Prelude.{◌≡◌, ◌==◌, false, [], is_some, length, vec_items, IsTrue, Some};
+ghost use Rattle.std.specs.List.{list_all};
 ghost use Rattle.std.specs.Option.{ok_or, option_map};
-ghost use Rattle.script.specs.Commands.{set_apart, said, echo, kind_of, kind_name, most, machine_of, memory_of, word_of, drain_of, scan_of, split_of, numbers_behind, journal_of, records_of, play_of, spelled, reading, takes_list, asks_for_list};
+ghost use Rattle.script.specs.Commands.{set_apart, said, echo, kind_of, kind_name, most, machine_of, memory_of, word_of, drain_of, scan_of, split_of, numbers_behind, is_hexadecimal, journal_of, records_of, play_of, spelled, reading, takes_list, asks_for_list};
 ghost use Rattle.text.specs.Lines.{after_word, first_word, words_of};
 ghost use Rattle.text.specs.Outcomes.{Gives, wants_memory};
 ghost use Rattle.text.specs.Texts.{hexadecimal};
@@ -187,13 +188,15 @@ fn drain_command(words: &mut Words<'_>) -> Option<Command>
 // scan BYTES: the words behind the first
 #[tactic(auto, unfolding(crate::specs::Commands::scan_of, text::specs::Lines::after_words))]
 fn scan_command(heap: Global, words: &mut Words<'_>) -> Result<Command, Unread>
-    ensures { Gives said result (scan_of words.old) }
+    ensures wants { IsTrue (wants_memory result) → IsTrue (is_some (scan_of words.old)) }
+    ensures gives { Gives said result (scan_of words.old) }
 {
-    let bytes = bytes(heap, next_word(words))?;
-    if ends(words) {
-        return Ok(Command::Scan { bytes });
+    let word = next_word(words);
+    if !ends(words) {
+        return Err(Unread::Unreadable);
     }
-    Err(Unread::Unreadable)
+    let bytes = bytes(heap, word)?;
+    Ok(Command::Scan { bytes })
 }
 
 // split ADDRESS: the word behind the first
@@ -216,15 +219,36 @@ fn hexadecimals(heap: Global, words: &mut Words<'_>) -> Result<Vec<u64>, Unread>
     Ok(numbers)
 }
 
-// journal WORD WORD ..: the words behind the first
-#[tactic(auto, unfolding(crate::specs::Commands::journal_of))]
-fn journal_command(heap: Global, words: &mut Words<'_>) -> Result<Command, Unread>
-    ensures { Gives said result (journal_of words.old) }
+// Whether each of the words writes a number in hexadecimal.
+fn are_hexadecimal(words: &mut Words<'_>) -> bool
+    ensures { result ≡ list_all is_hexadecimal (words_of words.old) }
 {
-    let words = hexadecimals(heap, words)?;
-    if words.is_empty() {
+    for word in words {
+        if hexadecimal(word).is_none() {
+            return false;
+        }
+    }
+    true
+}
+
+// Whether there is a word in a text, and each writes a number.
+#[tactic(auto, using(crate::proofs::Numbers::none_there, crate::proofs::Numbers::read_where))]
+fn are_numbers(text: &[u8]) -> bool
+    ensures { result ≡ is_some (journal_of text.now) }
+{
+    Words::new(text).next().is_some() && are_hexadecimal(&mut Words::new(text))
+}
+
+// journal WORD WORD ..: the words behind the first. Room is asked for only where there are some and all of them can be read.
+#[tactic(auto, using(crate::proofs::Numbers::none_read, crate::proofs::Numbers::none_behind, crate::proofs::Numbers::read))]
+fn journal_command(heap: Global, words: &mut Words<'_>) -> Result<Command, Unread>
+    ensures wants { IsTrue (wants_memory result) → IsTrue (is_some (journal_of words.old)) }
+    ensures gives { Gives said result (journal_of words.old) }
+{
+    if !are_numbers(words.rest()) {
         return Err(Unread::Unreadable);
     }
+    let words = hexadecimals(heap, words)?;
     Ok(Command::Journal { words })
 }
 
@@ -256,7 +280,7 @@ fn play_command(words: &mut Words<'_>) -> Option<Command>
 // The command of that name, with the words behind it. The names are compared one by one: of a `match` on them the way
 // through a name of six bytes is not proved.
 fn named(heap: Global, name: &[u8], words: &mut Words<'_>) -> Result<Command, Unread>
-    ensures wants { IsTrue (wants_memory result) → IsTrue (takes_list name.now) }
+    ensures wants { IsTrue (wants_memory result) → IsTrue (takes_list name.now) × IsTrue (is_some (spelled name.now words.old)) }
     ensures gives { Gives said result (spelled name.now words.old) }
 {
     if name == MEMORY {
@@ -293,7 +317,7 @@ fn named(heap: Global, name: &[u8], words: &mut Words<'_>) -> Result<Command, Un
 // Reads a line, with or without its line end. A line that holds no word before its comment asks for nothing.
 #[tactic(auto, unfolding(text::specs::Lines::after_words))]
 pub fn read(heap: Global, line: &[u8]) -> Result<Option<Command>, Unread>
-    ensures wants { IsTrue (wants_memory result) → IsTrue (asks_for_list line.now) }
+    ensures wants { IsTrue (wants_memory result) → IsTrue (asks_for_list line.now) × IsTrue (is_some (reading line.now)) }
     ensures gives { Gives (option_map said) result (reading line.now) }
 {
     let mut words = Words::new(command_part(line_text(line)));

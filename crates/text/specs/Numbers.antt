@@ -6,8 +6,8 @@
 --
 -- `digit_value`, `IsNumeral` and `digits_value` are the library's: a digit in either case, one digit or more, what the digits write.
 --
--- Made of: `base`, `digit_of`, `reads_on`, `pair_of`, `pairs_of`.
-use Rattle.std.specs.Prelude.{ℕ, ◌+◌, ◌*◌, ◌^◌, ◌<◌, cond, ◌&&◌, List, [], ◌∷◌, length, Some, None, codes, Option, ◌==◌, nat_lt}
+-- Made of: `base`, `digit_of`, `reads_on`, `pair_of`, `writes_byte`, `pairs_of`.
+use Rattle.std.specs.Prelude.{ℕ, Bool, is_some, slice_index, ◌+◌, ◌*◌, ◌^◌, ◌<◌, cond, ◌&&◌, List, [], ◌∷◌, length, Some, None, codes, Option, ◌==◌, nat_lt}
 use Rattle.std.specs.Option.{option_and_then, option_map}
 use Rattle.std.specs.Str.Parse.{IsNumeral, digits_value}
 use Rattle.std.specs.Char.{digit_value}
@@ -40,6 +40,10 @@ Number radix w = IsNumeral radix w × (digits_value radix w < 2 ^ 64)
 -- the byte that two hexadecimal digits write
 abbrev pub pair_of : ℕ → ℕ → Option ℕ
 pair_of c d = cond (nat_lt (digit_value c) 16 && nat_lt (digit_value d) 16) (Some (digit_value c * 16 + digit_value d)) None
+
+-- whether a pair of digits writes a byte
+abbrev pub writes_byte : List ℕ → Bool
+writes_byte pair = is_some (pair_of (slice_index pair 0) (slice_index pair 1))
 
 -- the bytes that hexadecimal digits write, two digits to a byte
 abbrev pub pairs_of : List ℕ → Option (List ℕ)

@@ -81,6 +81,14 @@ impl<'a> Words<'a> {
     {
         Words { left: text }
     }
+
+    // The text that is left.
+    pub fn rest(&self) -> &'a [u8]
+        ensures { result.now ≡ self.now }
+    {
+        let Words { left } = self;
+        *left
+    }
 }
 
 impl<'a> Iterator for Words<'a> {

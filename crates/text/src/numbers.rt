@@ -1,8 +1,9 @@
 // Numbers as scripts write them: digits alone, read at full width or not at all.
-ghost use Rattle.std.specs.Prelude.{◌≡◌, ◌+◌, ◌*◌, ◌%◌, ◌^◌, ◌<◌, ◌≤◌, IsTrue, length, vec_items};
+ghost use Rattle.std.specs.Prelude.{◌≡◌, ◌+◌, ◌*◌, ◌%◌, ◌^◌, ◌<◌, ◌≤◌, IsTrue, is_some, length, vec_items};
+ghost use Rattle.std.specs.List.{list_all};
 ghost use Rattle.std.specs.Option.{SomeIff};
 ghost use Rattle.std.specs.Str.Parse.{digits_value};
-ghost use Rattle.text.specs.Numbers.{base, digit_of, reads_on, number_of, Number, pair_of, pairs_of, bytes_of};
+ghost use Rattle.text.specs.Numbers.{base, digit_of, reads_on, number_of, Number, pair_of, writes_byte, pairs_of, bytes_of};
 ghost use Rattle.text.specs.Outcomes.{Gives, wants_memory};
 
 use crate::outcomes::Unread;
@@ -94,15 +95,30 @@ fn byte(high: u8, low: u8) -> Option<u8>
     Some((high * 16 + low) as u8)
 }
 
-// The bytes that digits write, two to a byte.
-#[tactic(auto, using(crate::proofs::Pairing::odd_none, crate::proofs::Pairing::all_pairs))]
+// Whether each pair of digits writes a byte.
+fn are_bytes(pairs: &[[u8; 2]]) -> bool
+    ensures { result ≡ list_all writes_byte pairs.now }
+{
+    for [high, low] in pairs {
+        if byte(*high, *low).is_none() {
+            return false;
+        }
+    }
+    true
+}
+
+// The bytes that digits write, two to a byte. Room is asked for only where all of them can be read.
+#[tactic(auto, using(crate::proofs::Pairing::odd_none, crate::proofs::Pairing::all_pairs, crate::proofs::Pairing::all_write, crate::proofs::Pairing::one_writes_none))]
 fn pairs(heap: Global, digits: &[u8]) -> Result<Vec<u8>, Unread>
-    ensures wants { IsTrue (wants_memory result) → length digits.now % 2 ≡ 0 }
+    ensures wants { IsTrue (wants_memory result) → (length digits.now % 2 ≡ 0) × IsTrue (is_some (pairs_of digits.now)) }
     ensures gives { Gives vec_items result (pairs_of digits.now) }
 {
     let (pairs, []) = digits.as_chunks::<2>() else {
         return Err(Unread::Unreadable);
     };
+    if !are_bytes(pairs) {
+        return Err(Unread::Unreadable);
+    }
     let mut out = Vec::new(heap);
     for [high, low] in pairs {
         out.push(byte(*high, *low).ok_or(Unread::Unreadable)?)?;
@@ -112,7 +128,7 @@ fn pairs(heap: Global, digits: &[u8]) -> Result<Vec<u8>, Unread>
 
 // The bytes that a word writes, the one at the lowest address first. `-` writes none.
 pub fn bytes(heap: Global, word: &[u8]) -> Result<Vec<u8>, Unread>
-    ensures wants { IsTrue (wants_memory result) → (0 < length word.now) × (length word.now % 2 ≡ 0) }
+    ensures wants { IsTrue (wants_memory result) → (0 < length word.now) × (length word.now % 2 ≡ 0) × IsTrue (is_some (bytes_of word.now)) }
     ensures gives { Gives vec_items result (bytes_of word.now) }
 {
     match word {
