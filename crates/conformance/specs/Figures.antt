@@ -1,5 +1,6 @@
--- The marked figures for acceptance, as one list over the definitions that the calls' contracts use.
+-- The marked figures for acceptance: as values, and as one list over the definitions that the calls' contracts use.
 --
+--   marked                        the figures as values
 --   NewWriteOnce, NewAppendOnly   that a policy is a new one of that kind
 --   appended                      an append-only policy that was told of a write
 --   Refuses40                     that an access is refused with 40
@@ -16,6 +17,24 @@ use Rattle.policy.specs.Policies.{permitted}
 use Rattle.policy.specs.declared.append_only.AppendOnly.{AppendOnly}
 use Rattle.policy.specs.declared.write_once.WriteOnce.{WriteOnce}
 use Rattle.scanner.specs.Rule.{passing}
+use Rattle.conformance.specs.declared.figures.Answers.{Answers}
+
+-- The figures as values, by the fields of the program's answers.
+abbrev pub marked : Answers
+marked = record {
+  parts =
+      record { four = 255; three = 511; two = 511; one = 511; offset = 4088 }
+      ∷ record { four = 256; three = 0; two = 0; one = 0; offset = 0 }
+      ∷ record { four = 0; three = 0; two = 1; one = 1; offset = 8 }
+      ∷ [];
+  refusals = 40 ∷ 40 ∷ 40 ∷ [];
+  passes = false ∷ false ∷ true ∷ false ∷ [];
+  once = true ∷ false ∷ [];
+  appended = false ∷ true ∷ [];
+  taken = 0x0000100109000104;
+  frames = 2;
+  written = 0x0000001000000105 ∷ 3 ∷ 0x636261 ∷ [];
+}
 
 -- A new write-once policy: the offsets below 4,096 of its region are open.
 abbrev pub NewWriteOnce : WriteOnce → Type 0

@@ -10,9 +10,12 @@ pub mod figures;
 use anyhow::Context;
 use bstr::ByteSlice;
 use comparing::agrees;
+use figures::{ADDRESSES, BEYOND, RUNS, compute};
+use paging::parts::Split;
 use script::session::Session;
 use std::process::ExitCode;
 use std::{env, fs};
+use text::printing::{HexBytes, Hexadecimal};
 
 // A file of the folder.
 fn read(rt: &HostRuntime, folder: &str, name: &str) -> anyhow::Result<Vec<u8>> {
@@ -84,17 +87,57 @@ fn compare_all(rt: &HostRuntime, folder: &str) -> anyhow::Result<bool> {
     Ok(agree > 0 && differ == 0)
 }
 
+// Prints an answer of a policy.
+fn answer(permits: bool) -> &'static str {
+    if permits { "yes" } else { "no" }
+}
+
+// Prints the marked figures, as the engine's functions answer them.
+fn print_figures(rt: &HostRuntime) -> anyhow::Result<()> {
+    let answers = compute();
+    for (address, parts) in ADDRESSES.iter().zip(answers.parts) {
+        let Split {
+            four,
+            three,
+            two,
+            one,
+            offset,
+        } = parts;
+        println!(rt;
+            "split {}: {four} {three} {two} {one} {offset}",
+            Hexadecimal(*address)
+        )?;
+    }
+    for (access, number) in ["load", "store", "fetch"].iter().zip(answers.refusals) {
+        println!(rt; "{access} {}: refused {number}", Hexadecimal(BEYOND))?;
+    }
+    for (run, passes) in RUNS.iter().zip(answers.passes) {
+        println!(rt;
+            "scan {}: {}",
+            HexBytes(run),
+            if passes { "passes" } else { "fails" }
+        )?;
+    }
+    let [one, two] = answers.once.map(answer);
+    println!(rt; "write-once, new, offset 4095: length 1 {one}, length 2 {two}")?;
+    let [below, next] = answers.appended.map(answer);
+    println!(rt;
+        "append-only, after offset 0 with length 16: offset 15 {below}, offset 16 {next}"
+    )?;
+    println!(rt;
+        "taken region 1 first 9 length 4097: {}, {} frames",
+        Hexadecimal(answers.taken),
+        answers.frames
+    )?;
+    let [head, length, data] = answers.written.map(Hexadecimal);
+    println!(rt; "written region 1 offset 16 bytes 616263: {head} {length} {data}")?;
+    Ok(())
+}
+
 fn main(rt: HostRuntime) -> anyhow::Result<ExitCode> {
     let folder = env::args(&rt)?.nth(1);
     let folder = folder.as_deref().unwrap_or(".");
-    println!(rt;
-        "figures: {}",
-        if figures::agree() {
-            "all agree"
-        } else {
-            "some differ"
-        }
-    )?;
+    print_figures(&rt)?;
     match compare_all(&rt, folder) {
         Ok(true) => Ok(ExitCode::SUCCESS),
         Ok(false) => Ok(ExitCode::FAILURE),
