@@ -87,7 +87,7 @@ fn compare_all(rt: &HostRuntime, folder: &str) -> anyhow::Result<bool> {
     Ok(agree > 0 && differ == 0)
 }
 
-// Prints an answer of a policy.
+// The word for an answer of a policy.
 fn answer(permits: bool) -> &'static str {
     if permits { "yes" } else { "no" }
 }
