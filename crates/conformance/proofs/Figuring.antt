@@ -3,14 +3,12 @@ use Rattle.std.proofs.Common.{◌≡◌, ℕ, zero, suc, ◌+◌, Bool, true, fa
 use Rattle.std.proofs.lemmas.Bool.{false≢true}
 use Rattle.memory.specs.ByteOrder.{word_of}
 use Rattle.journal.specs.Bytes.{bytes_in, packed}
-use Rattle.paging.specs.declared.faults.Access.{Access}
-use Rattle.paging.specs.declared.faults.Access.TheVariants.{Load, Store, Fetch}
 use Rattle.policy.specs.Kinds.{append_only_close, append_only_opens, below, write_once_opens}
 use Rattle.policy.specs.Policies.{all_open, permitted}
 use Rattle.policy.specs.Spans.{is_span, span_of}
 use Rattle.policy.specs.declared.append_only.AppendOnly.{AppendOnly}
 use Rattle.policy.specs.declared.write_once.WriteOnce.{WriteOnce}
-use Rattle.conformance.specs.Figures.{Figures, NewAppendOnly, NewWriteOnce, Refuses40, appended}
+use Rattle.conformance.specs.Figures.{Figures, NewAppendOnly, NewWriteOnce, after_write}
 
 -- Policies that have the same offsets open permit the same.
 permitted_alike : (opens others : ℕ → Bool) (offset length : ℕ) → ((o : ℕ) → opens o ≡ others o) → permitted opens offset length ≡ permitted others offset length
@@ -26,7 +24,7 @@ once : (policy : WriteOnce) (offset length : ℕ) → NewWriteOnce policy → pe
 once policy offset length new = permitted_alike (write_once_opens policy 0) (below 4096) offset length (new 0)
 
 -- What an append-only policy is that was told of a write, where it permitted that.
-moved : (policy : AppendOnly) (offset length : ℕ) → NewAppendOnly policy → permitted (below 65536) offset length ≡ true → appended policy offset length ≡ append_only_close policy offset length
+moved : (policy : AppendOnly) (offset length : ℕ) → NewAppendOnly policy → permitted (below 65536) offset length ≡ true → after_write policy offset length ≡ append_only_close policy offset length
 moved policy offset length new is = ap (λ b. if b then append_only_close policy offset length else policy) (permitted_alike (append_only_opens policy 0) (below 65536) offset length (new 0) ∙ is)
 
 -- What is none where a test fails.
@@ -35,7 +33,7 @@ failed true x e = absurd (false≢true (sym (ap is_some e)))
 failed false x e = refl
 
 -- Where an offset and a length make no span, a policy is as it was.
-pub not_told : (policy : AppendOnly) (offset length : ℕ) → span_of offset length ≡ None → policy ≡ appended policy offset length
+pub not_told : (policy : AppendOnly) (offset length : ℕ) → span_of offset length ≡ None → policy ≡ after_write policy offset length
 unfolding permitted
 not_told policy offset length none = sym (ap (λ b. if b && all_open (append_only_opens policy 0) offset length then append_only_close policy offset length else policy) (failed (is_span offset length) _ none))
 
@@ -47,11 +45,11 @@ pub once_past : (policy : WriteOnce) → NewWriteOnce policy → permitted (writ
 unfolding permitted
 once_past policy new = once policy 4095 2 new
 
-pub appended_below : (policy : AppendOnly) → NewAppendOnly policy → permitted (append_only_opens (appended policy 0 16) 0) 15 1 ≡ false
+pub appended_below : (policy : AppendOnly) → NewAppendOnly policy → permitted (append_only_opens (after_write policy 0 16) 0) 15 1 ≡ false
 unfolding permitted
 appended_below policy new = ap (λ p. permitted (append_only_opens p 0) 15 1) (moved policy 0 16 new refl)
 
-pub appended_next : (policy : AppendOnly) → NewAppendOnly policy → permitted (append_only_opens (appended policy 0 16) 0) 16 1 ≡ true
+pub appended_next : (policy : AppendOnly) → NewAppendOnly policy → permitted (append_only_opens (after_write policy 0 16) 0) 16 1 ≡ true
 unfolding permitted
 appended_next policy new = ap (λ p. permitted (append_only_opens p 0) 16 1) (moved policy 0 16 new refl)
 
@@ -67,24 +65,12 @@ one_word = refl
 pub figures : Figures
 unfolding packed word_of
 figures = record {
-  highest_word_low = refl;
-  lowest_word_high = refl;
-  second_page = refl;
-  not_canonical = each;
-  lead_before_0F30 = refl;
-  group_18 = refl;
-  group_D8 = refl;
-  group_before_0F22 = refl;
-  once_last = once_last;
-  once_past = once_past;
-  appended_below = appended_below;
-  appended_next = appended_next;
-  taken_word = refl;
-  taken_frames = refl;
-  written_words = refl;
+  parts = refl;
+  refusals = λ words root. refl;
+  passes = refl;
+  once = λ policy new. ap (λ b. b ∷ permitted (write_once_opens policy 0) 4095 2 ∷ []) (once_last policy new) ∙ ap (λ b. true ∷ b ∷ []) (once_past policy new);
+  appended = λ policy new. ap (λ b. b ∷ permitted (append_only_opens (after_write policy 0 16) 0) 16 1 ∷ []) (appended_below policy new) ∙ ap (λ b. false ∷ b ∷ []) (appended_next policy new);
+  taken = refl;
+  frames = refl;
+  written = refl;
 }
-  where
-    each : (access : Access) → Refuses40 0x0000800000000000 access
-    each Load words root = refl
-    each Store words root = refl
-    each Fetch words root = refl

@@ -2,16 +2,17 @@
 --
 --   marked                        the figures as values
 --   NewWriteOnce, NewAppendOnly   that a policy is a new one of that kind
---   appended                      an append-only policy that was told of a write
---   Refuses40                     that an access is refused with 40
---   Figures                       all of the figures
-use Rattle.std.specs.Prelude.{◌≡◌, ℕ, true, false, List, [], ◌∷◌, Option, Some}
+--   after_write                   an append-only policy that was told of a write
+--   refusals_at                   the numbers of accesses to an address
+--   Figures                       that the definitions give these values
+use Rattle.std.specs.Prelude.{◌≡◌, ℕ, true, false, List, [], ◌∷◌, map, Option, Some}
 use Rattle.journal.specs.Pictures.{frames_needed}
 use Rattle.journal.specs.Questions.{first_no}
-use Rattle.journal.specs.Records.{encode, taken, written}
+use Rattle.journal.specs.Records.{encode}
+use Rattle.journal.specs.Records as record_of
 use Rattle.paging.specs.Addresses.{parts_of}
 use Rattle.paging.specs.Questions.{access_questions}
-use Rattle.paging.specs.declared.faults.Access.{Access}
+use Rattle.paging.specs.declared.faults.Access.TheVariants.{Load, Store, Fetch}
 use Rattle.policy.specs.Kinds.{alone, append_only_close, append_only_openness, append_only_opens, below, kind_after, write_once_opens}
 use Rattle.policy.specs.Policies.{permitted}
 use Rattle.policy.specs.declared.append_only.AppendOnly.{AppendOnly}
@@ -45,33 +46,26 @@ abbrev pub NewAppendOnly : AppendOnly → Type 0
 NewAppendOnly policy = (region offset : ℕ) → append_only_opens policy region offset ≡ alone (below 65536) region offset
 
 -- The policy after a write to its region.
-abbrev pub appended : AppendOnly → ℕ → ℕ → AppendOnly
-appended policy offset length = kind_after append_only_openness append_only_close policy 0 offset length
+abbrev pub after_write : AppendOnly → ℕ → ℕ → AppendOnly
+after_write policy offset length = kind_after append_only_openness append_only_close policy 0 offset length
 
--- An access to the address is refused with 40, whatever the memory holds and whatever its root is.
-abbrev pub Refuses40 : ℕ → Access → Type 0
-Refuses40 address access = (words : List ℕ) (root : Option ℕ) → first_no (access_questions words root address access) ≡ Some 40
+-- The numbers with which a load, a store and a fetch at an address are refused, by their questions.
+abbrev pub refusals_at : ℕ → List ℕ → Option ℕ → List (Option ℕ)
+refusals_at address words root = map (λ access. first_no (access_questions words root address access)) (Load ∷ Store ∷ Fetch ∷ [])
 
--- All of the figures.
+-- All of the figures: what the definitions say is these values.
 pub record Figures : Type 0 where
-  -- Addresses and their parts.
-  pub highest_word_low : parts_of 0x00007FFFFFFFFFF8 ≡ record { four = 255; three = 511; two = 511; one = 511; offset = 4088 }
-  pub lowest_word_high : parts_of 0xFFFF800000000000 ≡ record { four = 256; three = 0; two = 0; one = 0; offset = 0 }
-  pub second_page : parts_of 0x201008 ≡ record { four = 0; three = 0; two = 1; one = 1; offset = 8 }
-  -- An address that is not canonical, for each access.
-  pub not_canonical : (access : Access) → Refuses40 0x0000800000000000 access
-  -- Runs of bytes and the scanner.
-  pub lead_before_0F30 : passing (0x0F ∷ 0x0F ∷ 0x30 ∷ []) ≡ false
-  pub group_18 : passing (0x0F ∷ 0x01 ∷ 0x18 ∷ []) ≡ false
-  pub group_D8 : passing (0x0F ∷ 0x01 ∷ 0xD8 ∷ 0x00 ∷ []) ≡ true
-  pub group_before_0F22 : passing (0x0F ∷ 0x01 ∷ 0x0F ∷ 0x22 ∷ []) ≡ false
-  -- A new write-once policy.
-  pub once_last : (policy : WriteOnce) → NewWriteOnce policy → permitted (write_once_opens policy 0) 4095 1 ≡ true
-  pub once_past : (policy : WriteOnce) → NewWriteOnce policy → permitted (write_once_opens policy 0) 4095 2 ≡ false
-  -- A new append-only policy that was told of a write at offset 0 of length 16.
-  pub appended_below : (policy : AppendOnly) → NewAppendOnly policy → permitted (append_only_opens (appended policy 0 16) 0) 15 1 ≡ false
-  pub appended_next : (policy : AppendOnly) → NewAppendOnly policy → permitted (append_only_opens (appended policy 0 16) 0) 16 1 ≡ true
-  -- Region 1 is taken at frame 9 with 4,097 bytes, which are two frames; then 61 62 63 are written at its offset 16.
-  pub taken_word : encode (taken 1 9 4097) ≡ 0x0000100109000104 ∷ []
-  pub taken_frames : frames_needed 4097 ≡ 2
-  pub written_words : encode (written 1 16 (0x61 ∷ 0x62 ∷ 0x63 ∷ [])) ≡ 0x0000001000000105 ∷ 3 ∷ 0x636261 ∷ []
+  -- The parts of three addresses.
+  pub parts : parts_of 0x00007FFFFFFFFFF8 ∷ parts_of 0xFFFF800000000000 ∷ parts_of 0x201008 ∷ [] ≡ marked.parts
+  -- Accesses to an address that is not canonical, whatever the memory holds and whatever its root is.
+  pub refusals : (words : List ℕ) (root : Option ℕ) → refusals_at 0x0000800000000000 words root ≡ map Some marked.refusals
+  -- Four runs of bytes and the scanner.
+  pub passes : passing (0x0F ∷ 0x0F ∷ 0x30 ∷ []) ∷ passing (0x0F ∷ 0x01 ∷ 0x18 ∷ []) ∷ passing (0x0F ∷ 0x01 ∷ 0xD8 ∷ 0x00 ∷ []) ∷ passing (0x0F ∷ 0x01 ∷ 0x0F ∷ 0x22 ∷ []) ∷ [] ≡ marked.passes
+  -- A new write-once policy at offset 4,095, with length 1 and with length 2.
+  pub once : (policy : WriteOnce) → NewWriteOnce policy → permitted (write_once_opens policy 0) 4095 1 ∷ permitted (write_once_opens policy 0) 4095 2 ∷ [] ≡ marked.once
+  -- A new append-only policy that was told of a write at offset 0 of length 16: offsets 15 and 16, with length 1.
+  pub appended : (policy : AppendOnly) → NewAppendOnly policy → permitted (append_only_opens (after_write policy 0 16) 0) 15 1 ∷ permitted (append_only_opens (after_write policy 0 16) 0) 16 1 ∷ [] ≡ marked.appended
+  -- Region 1 is taken at frame 9 with 4,097 bytes, so many frames; then 61 62 63 are written at its offset 16.
+  pub taken : encode (record_of.taken 1 9 4097) ≡ marked.taken ∷ []
+  pub frames : frames_needed 4097 ≡ marked.frames
+  pub written : encode (record_of.written 1 16 (0x61 ∷ 0x62 ∷ 0x63 ∷ [])) ≡ marked.written

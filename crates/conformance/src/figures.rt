@@ -3,7 +3,7 @@
 ghost use Rattle.std.specs.Prelude.{◌≡◌, ◌≤◌, ◌++◌, drop, length, replicate};
 ghost use Rattle.journal.specs.Records.{change_of, encode};
 ghost use Rattle.policy.specs.Policies.{permitted};
-ghost use Rattle.conformance.specs.Figures.{Figures, appended, marked};
+ghost use Rattle.conformance.specs.Figures.{Figures, after_write, marked};
 
 use journal::records::{Record, Stretch};
 use journal::regions::frames_needed;
@@ -86,7 +86,7 @@ fn once() -> [bool; 2]
 // Tells an append-only policy of a write at the beginning of its region, if there is such a span.
 #[tactic(auto, using(crate::proofs::Figuring::not_told))]
 fn append(policy: &mut AppendOnly, length: u64)
-    ensures { policy.new ≡ appended policy.old 0 length }
+    ensures { policy.new ≡ after_write policy.old 0 length }
 {
     if let Some(span) = Span::new(0, length) {
         policy.told(0, span);
