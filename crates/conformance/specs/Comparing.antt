@@ -6,15 +6,16 @@
 --   behind      what of a line stands behind one that is expected
 --   agrees      whether a printed line is the expected one, but for the place of a walk's fault
 --   Expected    the same in the subject's words
-use Rattle.std.specs.Prelude.{◌≡◌, ℕ, Bool, false, ◌&&◌, ◌||◌, ◌==◌, ◌⊎◌, IsTrue, List, [], ◌++◌, codes, drop, length, take, nat_le, Some, None, Option, is_some}
+use Rattle.std.specs.Prelude.{◌≡◌, ℕ, Bool, ◌&&◌, ◌||◌, ◌==◌, ◌⊎◌, IsTrue, List, [], ◌++◌, codes, drop, length, take, Option, is_some}
+use Rattle.std.specs.Option.{option_and_then}
 use Rattle.std.specs.Str.{bytes_eq}
+use Rattle.journal.specs.Kinds.{level_of}
 use Rattle.text.specs.Lines.{word_at}
 use Rattle.text.specs.Numbers.{number_of}
 
 -- A number is that of a level.
 abbrev pub is_level : Option ℕ → Bool
-is_level None = false
-is_level (Some n) = nat_le 1 n && nat_le n 4
+is_level number = is_some (option_and_then level_of number)
 
 -- The words `at level L in table T` and no other.
 abbrev pub is_place : List ℕ → Bool

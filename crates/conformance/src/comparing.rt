@@ -3,6 +3,7 @@
 ghost use Rattle.std.specs.Prelude.{◌≡◌, ◌↔◌, IsTrue};
 ghost use Rattle.conformance.specs.Comparing.{Expected, agrees, is_level, is_place};
 
+use journal::kinds::Level;
 use text::lines::{is_word, word};
 use text::numbers::decimal;
 
@@ -10,7 +11,7 @@ use text::numbers::decimal;
 fn is_level(number: Option<u64>) -> bool
     ensures { result ≡ is_level number }
 {
-    number.is_some_and(|level| level >= 1 && level <= 4)
+    number.and_then(Level::new).is_some()
 }
 
 // Whether a text is the place of a walk's fault, and nothing else.
