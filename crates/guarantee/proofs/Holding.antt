@@ -5,6 +5,7 @@ use Rattle.std.proofs.lemmas.Bool.{false≢true}
 use Rattle.std.proofs.lemmas.Bool.Decides.{nat_tests}
 use Rattle.std.proofs.lemmas.List.{length-replicate}
 use Rattle.std.proofs.lemmas.Option.{same_Some, slice_get_within}
+use Rattle.memory.specs.Memories as memory
 use Rattle.journal.proofs.Fillings.{length_filled}
 use Rattle.journal.proofs.Staying.{none_live}
 use Rattle.journal.specs.Figures.{figure_questions}
@@ -60,66 +61,66 @@ neither frames first count f k test e holds no_log no_plain = ⊎_elim (λ log. 
 frame_count : (frames first count : ℕ) → length (new_kinds frames first count) ≡ frames
 frame_count frames first count = length_filled (replicate frames kind.Plain) first count kind.Log ∙ length-replicate frames kind.Plain
 
-module _ (words : List ℕ) (frames first count : ℕ) (whole : length words ≡ 512 * frames) (fine : good frames first count ≡ true) where
-  asked : Yes (figure_questions frames first count)
-  asked = all_yes (figure_questions frames first count) fine
+module _ {M : Type 0} (m : memory.Meaning M) (x : M) (first count : ℕ) (whole : length (m.words x) ≡ 512 * m.size x) (fine : good (m.size x) first count ≡ true) where
+  asked : Yes (figure_questions (m.size x) first count)
+  asked = all_yes (figure_questions (m.size x) first count) fine
 
-  none_no : first_no (figure_questions frames first count) ≡ None
-  none_no = is_none_is (first_no (figure_questions frames first count)) fine
+  none_no : first_no (figure_questions (m.size x) first count) ≡ None
+  none_no = is_none_is (first_no (figure_questions (m.size x) first count)) fine
     where
       is_none_is : (o : Option ℕ) → is_none o ≡ true → o ≡ None
       is_none_is None e = refl
       is_none_is (Some n) e = absurd (false≢true e)
 
-  room : first + count ≤ frames
+  room : first + count ≤ m.size x
   room = let is = asked.1.1.0 in grind (arith, nat_tests, is)
 
-  new_sound : Sound (with_words (new_picture frames first count) words) None first count
+  new_sound : Sound (with_words (new_picture (m.size x) first count) (m.words x)) None first count
   new_sound = record {
-    whole = whole ∙ ap (λ n. 512 * n) (sym (frame_count frames first count));
-    entries = λ table index level is. absurd (neither frames first count table _ (λ k. is_table (Some k)) is refl refl refl);
+    whole = whole ∙ ap (λ n. 512 * n) (sym (frame_count (m.size x) first count));
+    entries = λ table index level is. absurd (neither (m.size x) first count table _ (λ k. is_table (Some k)) is refl refl refl);
     top = λ r e. absurd (differ is_none _ _ e refl refl);
-    log = λ f low high. filled_in (replicate frames kind.Plain) first count kind.Log f low high (let long = length-replicate frames kind.Plain in let fits = room in omega (arith, high, long, fits));
-    only = λ f e. ⊎_elim (λ log. log.1) (λ plain. absurd (differ (λ k. is_log (Some k)) _ _ plain refl refl)) (frame_is frames first count f kind.Log e);
+    log = λ f low high. filled_in (replicate (m.size x) kind.Plain) first count kind.Log f low high (let long = length-replicate (m.size x) kind.Plain in let fits = room in omega (arith, high, long, fits));
+    only = λ f e. ⊎_elim (λ log. log.1) (λ plain. absurd (differ (λ k. is_log (Some k)) _ _ plain refl refl)) (frame_is (m.size x) first count f kind.Log e);
     regions = record {
       lived = λ r start size e. absurd (none_live 16 r start size e);
       apart = λ r start size q from long other e. absurd (none_live 16 r start size e);
     };
-    code = λ f e. absurd (neither frames first count f _ (λ k. is_code (Some k)) e refl refl refl);
+    code = λ f e. absurd (neither (m.size x) first count f _ (λ k. is_code (Some k)) e refl refl refl);
   }
 
-  new_kept : KeptBy true (new_guarded words frames first count) None
+  new_kept : KeptBy true (new_guarded m x first count) None
   new_kept = record {
     good = refl;
-    figures = subst (λ n. first_no (figure_questions n first count) ≡ None) (sym (frame_count frames first count)) none_no;
-    few = subst (λ n. n ≤ 256) (sym (frame_count frames first count)) (let is = asked.0 in grind (arith, nat_tests, is));
+    figures = subst (λ n. first_no (figure_questions n first count) ≡ None) (sym (frame_count (m.size x) first count)) none_no;
+    few = subst (λ n. n ≤ 256) (sym (frame_count (m.size x) first count)) (let is = asked.0 in grind (arith, nat_tests, is));
     held = omega arith;
     sound = new_sound;
   }
 
 -- Nothing is told of a new machine yet.
-new_told : {P : Type 0} (words : List ℕ) (frames first count : ℕ) (s : State P) → length words ≡ 512 * frames → s.guarded ≡ new_guarded words frames first count → Told (record { frames = frames; first = first; count = count }) [] s
-new_told {P} words frames first count s whole is = record {
+new_told : {M P : Type 0} (m : memory.Meaning M) (x : M) (first count : ℕ) (s : State P) → length (m.words x) ≡ 512 * m.size x → s.guarded ≡ new_guarded m x first count → Told (record { frames = m.size x; first = first; count = count }) [] s
+new_told {P = P} m x first count s whole is = record {
   changes = [];
   ws = zeros;
   fit = refl;
   journal = ap held_words is;
   follow = all_follow_none (start f);
   picture = ap (λ g. with_words g.picture zeros) (sym is);
-  long = length-replicate (512 * frames) 0 ∙ sym whole ∙ ap (λ g. length g.picture.words) (sym is);
-  agree = subst (λ g. Agree zeros g.picture) (sym is) (λ frame replayed. absurd (no_frame frame (slice_get (new_kinds frames first count) frame) refl replayed));
-  figures = ap (λ g. figures_by g) is ∙ ap (λ n. record { frames = n; first = first; count = count }) (frame_count frames first count);
+  long = length-replicate (512 * (m.size x)) 0 ∙ sym whole ∙ ap (λ g. length g.picture.words) (sym is);
+  agree = subst (λ g. Agree zeros g.picture) (sym is) (λ frame replayed. absurd (no_frame frame (slice_get (new_kinds (m.size x) first count) frame) refl replayed));
+  figures = ap (λ g. figures_by g) is ∙ ap (λ n. record { frames = n; first = first; count = count }) (frame_count (m.size x) first count);
 }
   where
     f : LogFigures
-    f = record { frames = frames; first = first; count = count }
+    f = record { frames = m.size x; first = first; count = count }
 
     zeros : List ℕ
-    zeros = replicate (512 * frames) 0
+    zeros = replicate (512 * (m.size x)) 0
 
-    no_frame : (frame : ℕ) (o : Option FrameKind) → slice_get (new_kinds frames first count) frame ≡ o → keeps_words o ≡ true → ⊥
+    no_frame : (frame : ℕ) (o : Option FrameKind) → slice_get (new_kinds (m.size x) first count) frame ≡ o → keeps_words o ≡ true → ⊥
     no_frame frame None e replayed = false≢true replayed
-    no_frame frame (Some k) e replayed = neither frames first count frame k (λ x. keeps_words (Some x)) e replayed refl refl
+    no_frame frame (Some k) e replayed = neither (m.size x) first count frame k (λ x. keeps_words (Some x)) e replayed refl refl
 
 -- What holds at the end of a run.
 laws_of : {P : Type 0} (means : Meaning P) (f : LogFigures) (events : List Event) (s t : State P) → Lawful means → Kept s → s.root ≡ None → ((frame : ℕ) → slice_get s.guarded.picture.kinds frame ≡ Some kind.Code → ⊥) → Told f [] s → Run means events s t → Laws means events s t
@@ -145,15 +146,15 @@ laws_of means f events s t laws kept no_root no_code told run = record {
     rooted root is = subst (λ o. Sound t.guarded.picture o t.guarded.first_log t.guarded.logs) is end.sound
 
 -- So they hold of every run of a new machine that was made on good figures.
-pub guaranteed : {P : Type 0} (means : Meaning P) (s : State P) (words : List ℕ) (frames first count : ℕ) (policy : P) → s ≡ new_state words frames first count policy → IsTrue (good frames first count) → length words ≡ 512 * frames → Lawful means → Guaranteed means s
+pub guaranteed : {M P : Type 0} (means : Meaning P) (s : State P) (m : memory.Meaning M) (x : M) (first count : ℕ) (policy : P) → s ≡ new_state m x first count policy → IsTrue (good (m.size x) first count) → length (m.words x) ≡ 512 * m.size x → Lawful means → Guaranteed means s
 unfolding Guaranteed
-guaranteed {P} means s words frames first count policy made fine whole laws events t run =
-    laws_of means (record { frames = frames; first = first; count = count }) events s t laws
-    (subst Kept (sym made) (subst (λ b. KeptBy b (cond b (new_guarded words frames first count) (new_guarded words frames 0 0)) None) (sym fine) (new_kept words frames first count whole fine)))
-    (ap (λ x. x.root) made)
-    (λ frame e. neither frames first count frame _ (λ k. is_code (Some k)) (ap (λ g. slice_get g.picture.kinds frame) (sym guards) ∙ e) refl refl refl)
-    (new_told words frames first count s whole guards)
+guaranteed means s m x first count policy made fine whole laws events t run =
+    laws_of means (record { frames = m.size x; first = first; count = count }) events s t laws
+    (subst Kept (sym made) (subst (λ b. KeptBy b (cond b (new_guarded m x first count) (new_guarded m x 0 0)) None) (sym fine) (new_kept m x first count whole fine)))
+    (ap (λ u. u.root) made)
+    (λ frame e. neither (m.size x) first count frame _ (λ k. is_code (Some k)) (ap (λ g. slice_get g.picture.kinds frame) (sym guards) ∙ e) refl refl refl)
+    (new_told m x first count s whole guards)
     run
   where
-    guards : s.guarded ≡ new_guarded words frames first count
-    guards = ap (λ x. x.guarded) made ∙ ap (λ b. cond b (new_guarded words frames first count) (new_guarded words frames 0 0)) fine
+    guards : s.guarded ≡ new_guarded m x first count
+    guards = ap (λ u. u.guarded) made ∙ ap (λ b. cond b (new_guarded m x first count) (new_guarded m x 0 0)) fine

@@ -18,7 +18,7 @@ use Rattle.paging.specs.declared.faults.Access.TheVariants as access
 use Rattle.policy.specs.Policies.{Lawful, Meaning}
 use Rattle.guard.proofs.Laying.{length_put_words, put_out}
 use Rattle.guard.specs.Calls.{Request, declare, set, retire, take, write, release, accept, unaccept, load_register, load_root, load, store, fetch, drain}
-use Rattle.guard.specs.Guarding.{Guarded, journaled, put_words}
+use Rattle.guard.specs.Guarding.{Guarded, emptied, journaled, put_words, with_picture}
 use Rattle.guard.specs.Orders.{kind_of, questions}
 use Rattle.guard.specs.Scans.{is_table_of}
 use Rattle.guard.specs.States.{State}
@@ -66,7 +66,7 @@ fetches_code p r first_log logs address sound y = fetch_code p r first_log logs 
 pub store_out : (words : List ℕ) (r address value f : ℕ) → (f ≡ page_of words r address → ⊥) → SameFrame (stored words (Some r) address value) words f
 store_out words r address value f other index low = set_out words (place_reached words r address) value (512 * f + index) (λ same. other (let e = same in omega (arith, e, low)))
 
-store_kept : (made : Bool) (g : Guarded) (root : Option ℕ) (address value : ℕ) → KeptBy made g root → Yes (access_questions g.picture.words root address access.Store) → KeptBy made (record { picture = with_words g.picture (stored g.picture.words root address value); first_log = g.first_log; logs = g.logs; held = g.held }) root
+store_kept : (made : Bool) (g : Guarded) (root : Option ℕ) (address value : ℕ) → KeptBy made g root → Yes (access_questions g.picture.words root address access.Store) → KeptBy made (with_picture g (with_words g.picture (stored g.picture.words root address value))) root
 store_kept made g None address value kept y = absurd (false≢true y.1.1.0)
 store_kept made g (Some r) address value kept y = record {
   good = kept.good;
@@ -111,7 +111,7 @@ root_kept made g root frame kept is = record {
   };
 }
 
-drained_kept : (made : Bool) (g : Guarded) (root : Option ℕ) → KeptBy made g root → KeptBy made (record { picture = g.picture; first_log = g.first_log; logs = g.logs; held = 0 }) root
+drained_kept : (made : Bool) (g : Guarded) (root : Option ℕ) → KeptBy made g root → KeptBy made (emptied g) root
 drained_kept made g root kept = record { good = kept.good; figures = kept.figures; few = kept.few; held = omega arith; sound = kept.sound }
 
 -- Every accepted call.

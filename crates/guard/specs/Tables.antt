@@ -1,16 +1,26 @@
--- What a frame table knows.
+-- What a frame table knows, and what a memory with its frame table is.
 --
---   kinds_of       the kind of each frame
---   plain_frames   the kinds of frames that are all plain
-use Rattle.std.specs.Prelude.{ℕ, List, map, replicate, take}
+--   kinds_of       the kind of each record
+--   Frames         the words, the kinds, and what stands beside the words
+--   over_words, over_kinds   the same with other words, or with other kinds
+use Rattle.std.specs.Prelude.{ℕ, List, map}
 use Rattle.journal.specs.declared.kinds.FrameKind.{FrameKind}
-use Rattle.journal.specs.declared.kinds.FrameKind.TheVariants as kind
+use Rattle.memory.specs.Memories.{Beside}
 use Rattle.guard.specs.declared.table.FrameTable.{FrameTable}
 
--- The kind of each frame that there is, by its record.
+-- The kind in each record.
 abbrev pub kinds_of : FrameTable → List FrameKind
-kinds_of t = take t.count (map (λ r. r.kind) t.records)
+kinds_of t = map (λ r. r.kind) t.records
 
--- So many plain frames, 256 at most.
-abbrev pub plain_frames : ℕ → List FrameKind
-plain_frames count = take count (replicate 256 kind.Plain)
+-- The words of a memory, the kind of each of its frames, and what stands beside its words.
+pub record Frames : Type 0 where
+  pub words : List ℕ
+  pub kinds : List FrameKind
+  pub beside : Beside
+
+-- The same with other words, or with other kinds.
+abbrev pub over_words : Frames → List ℕ → Frames
+over_words f ws = record { words = ws; kinds = f.kinds; beside = f.beside }
+
+abbrev pub over_kinds : Frames → List FrameKind → Frames
+over_kinds f kinds = record { words = f.words; kinds = kinds; beside = f.beside }

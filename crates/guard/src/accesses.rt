@@ -6,7 +6,7 @@ ghost use Rattle.journal.specs.Pictures.{with_words};
 ghost use Rattle.journal.specs.Questions.{first_no};
 ghost use Rattle.paging.specs.Questions.{access_questions, fault_number, translated};
 ghost use Rattle.paging.specs.declared.faults.Access.TheVariants.{Store};
-ghost use Rattle.guard.specs.Guarding.{guarded_of, with_picture};
+ghost use Rattle.guard.specs.Guarding.{with_picture};
 ghost use Rattle.guard.specs.Steps.{fault_in, reached, stored, value_in};
 
 use crate::guarded::GuardedMemory;
@@ -22,12 +22,12 @@ impl<M: Memory> GuardedMemory<M> {
         address: u64,
         access: Access,
     ) -> Result<u64, AccessFault>
-        ensures number { refusal fault_number result ≡ first_no (access_questions (guarded_of M.words self.now).picture.words root address access) }
-        ensures ends { fault_in result ≡ fault_in (translated (guarded_of M.words self.now).picture.words root address access) }
-        ensures word { value_in result ≡ cond (is_ok result) (reached (guarded_of M.words self.now).picture.words root address) None }
+        ensures number { refusal fault_number result ≡ first_no (access_questions self.now.picture.words root address access) }
+        ensures ends { fault_in result ≡ fault_in (translated self.now.picture.words root address access) }
+        ensures word { value_in result ≡ cond (is_ok result) (reached self.now.picture.words root address) None }
     {
-        let index = translate(&self.memory, root, address, access)?;
-        Ok(self.memory.read(index).unwrap_or(0))
+        let index = translate(self.framed.memory(), root, address, access)?;
+        Ok(self.framed.memory().read(index).unwrap_or(0))
     }
 
     // Replaces the word that a store reaches from a root, or says why it reaches none and changes nothing.
@@ -37,12 +37,12 @@ impl<M: Memory> GuardedMemory<M> {
         address: u64,
         value: u64,
     ) -> Result<(), AccessFault>
-        ensures number { refusal fault_number result ≡ first_no (access_questions (guarded_of M.words self.old).picture.words root address Store) }
-        ensures ends { fault_in result ≡ fault_in (translated (guarded_of M.words self.old).picture.words root address Store) }
-        ensures after { guarded_of M.words self.new ≡ with_picture (guarded_of M.words self.old) (with_words (guarded_of M.words self.old).picture (cond (is_ok result) (stored (guarded_of M.words self.old).picture.words root address value) (guarded_of M.words self.old).picture.words)) }
+        ensures number { refusal fault_number result ≡ first_no (access_questions self.old.picture.words root address Store) }
+        ensures ends { fault_in result ≡ fault_in (translated self.old.picture.words root address Store) }
+        ensures after { self.new ≡ with_picture self.old (with_words self.old.picture (cond (is_ok result) (stored self.old.picture.words root address value) self.old.picture.words)) }
     {
-        let index = translate(&self.memory, root, address, Access::Store)?;
-        let _ = self.memory.write(index, value);
+        let index = translate(self.framed.memory(), root, address, Access::Store)?;
+        self.framed.write(index, value);
         Ok(())
     }
 }

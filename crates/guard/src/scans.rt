@@ -2,7 +2,6 @@
 
 ghost use Rattle.std.specs.Prelude.{◌≡◌, ◌≤◌, ◌<◌, ◌+◌, ◌↔◌, ◌&&◌, not, IsTrue, slice_get};
 ghost use Rattle.paging.specs.Entries.{entry_at};
-ghost use Rattle.guard.specs.Guarding.{guarded_of};
 ghost use Rattle.guard.specs.Scans.{EntryByEntry, clear_table, is_table_of, left_to_scan, no_entry, scanned, wanted};
 
 use crate::guarded::GuardedMemory;
@@ -44,7 +43,7 @@ impl Sought {
 fn entry_of<M: Memory>(memory: &M, table: u64, index: u64) -> Entry
     requires table { table < 256 }
     requires index { index < 512 }
-    ensures { result.0 ≡ entry_at (M.words memory.now) table index }
+    ensures { result.0 ≡ entry_at (M.means.words memory.now) table index }
 {
     Entry(memory.read(FRAME_WORDS * table + index).unwrap_or(0))
 }
@@ -53,7 +52,7 @@ fn entry_of<M: Memory>(memory: &M, table: u64, index: u64) -> Entry
 #[tactic(auto, using(crate::proofs::Scanning::no_entry_yet, crate::proofs::Scanning::entry_clear, crate::proofs::Scanning::entry_wanted))]
 fn is_clear<M: Memory>(memory: &M, table: u64, sought: Sought) -> bool
     requires { table < 256 }
-    ensures { result ≡ clear_table (M.words memory.now) sought table 512 }
+    ensures { result ≡ clear_table (M.means.words memory.now) sought table 512 }
 {
     for index in 0..FRAME_WORDS {
         if sought.is(entry_of(memory, table, index)) {
@@ -68,7 +67,7 @@ fn is_clear<M: Memory>(memory: &M, table: u64, sought: Sought) -> bool
 fn scan_word<M: Memory>(memory: &M, frame: u64, index: u64, scanner: &mut Scanner) -> bool
     requires frame { frame < 256 }
     requires index { index < 512 }
-    ensures { left_to_scan (M.words memory.now) frame index scanner.old ≡ (result && left_to_scan (M.words memory.now) frame (index + 1) scanner.new) }
+    ensures { left_to_scan (M.means.words memory.now) frame index scanner.old ≡ (result && left_to_scan (M.means.words memory.now) frame (index + 1) scanner.new) }
 {
     let Entry(word) = entry_of(memory, frame, index);
     word.feed_to(scanner).is_ok()
@@ -78,7 +77,7 @@ fn scan_word<M: Memory>(memory: &M, frame: u64, index: u64, scanner: &mut Scanne
 #[tactic(auto, using(crate::proofs::Scanning::frame_start, crate::proofs::Scanning::frame_more, crate::proofs::Scanning::frame_stop, crate::proofs::Scanning::frame_end))]
 pub(crate) fn passes<M: Memory>(memory: &M, frame: u64) -> bool
     requires { frame < 256 }
-    ensures { result ≡ scanned (M.words memory.now) frame }
+    ensures { result ≡ scanned (M.means.words memory.now) frame }
 {
     let mut scanner = Scanner::new();
     for index in 0..FRAME_WORDS {
@@ -92,7 +91,7 @@ pub(crate) fn passes<M: Memory>(memory: &M, frame: u64) -> bool
 impl<M: Memory> GuardedMemory<M> {
     // Whether a frame is a table of that level.
     fn is_table_of(&self, frame: u64, level: Level) -> bool
-        ensures { result ≡ is_table_of level (slice_get (guarded_of M.words self.now).picture.kinds frame) }
+        ensures { result ≡ is_table_of level (slice_get self.now.picture.kinds frame) }
     {
         self.kind(frame) == Some(FrameKind::Table(level))
     }
@@ -100,15 +99,15 @@ impl<M: Memory> GuardedMemory<M> {
     // Whether a frame is a table of that level and has an entry that is looked for.
     fn holds(&self, frame: u64, level: Level, sought: Sought) -> bool
         requires { frame < 256 }
-        ensures { result ≡ (is_table_of level (slice_get (guarded_of M.words self.now).picture.kinds frame) && not (clear_table (M.words self.now.memory) sought frame 512)) }
+        ensures { result ≡ (is_table_of level (slice_get self.now.picture.kinds frame) && not (clear_table (self.now.picture.words) sought frame 512)) }
     {
-        self.is_table_of(frame, level) && !is_clear(&self.memory, frame, sought)
+        self.is_table_of(frame, level) && !is_clear(self.framed.memory(), frame, sought)
     }
 
     // Whether no entry of any table of a level is one of those that are looked for.
     #[tactic(auto, using(crate::proofs::Scanning::no_table_yet, crate::proofs::Scanning::table_clear, crate::proofs::Scanning::table_wanted, crate::proofs::Scanning::none_anywhere))]
     pub fn has_no_entry(&self, level: Level, sought: Sought) -> bool
-        ensures is { result ≡ no_entry (guarded_of M.words self.now).picture level sought }
+        ensures is { result ≡ no_entry self.now.picture level sought }
         ensures each { EntryByEntry }
     {
         for table in 0..self.frame_count() {

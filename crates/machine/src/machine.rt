@@ -1,7 +1,6 @@
 // A machine, and what each call does with it.
 
 ghost use Rattle.std.specs.Prelude.{◌≡◌, ◌*◌, IsTrue, true, cond, length, nat_lt, Err, Ok};
-ghost use Rattle.guard.specs.Guarding.{guarded_of};
 ghost use Rattle.guard.specs.Orders.{is_frame};
 ghost use Rattle.guard.specs.declared.refusals.Refusal.TheVariants.{BadFigures, NoFrame, Ungoverned};
 ghost use Rattle.guard.specs.Calls.{declare, set, retire, take, write, release, accept, unaccept, load_register, load_root, load, store, fetch, drain, done_or_faulted, done_or_refused, drained_or_refused, word_or_faulted, request_of};
@@ -9,7 +8,6 @@ ghost use Rattle.guard.specs.States.{good, new_state};
 ghost use Rattle.guard.specs.Steps.{Step, piece, with_piece};
 ghost use Rattle.guarantee.specs.Guarantee.{Guaranteed, bytes_of_write};
 ghost use Rattle.journal.specs.Bytes.{are_bytes};
-ghost use Rattle.machine.specs.Machines.{state_of};
 
 use guard::calls::{Answer, Call};
 use guard::guarded::GuardedMemory;
@@ -25,10 +23,11 @@ use paging::entries::Entry;
 use paging::faults::{Access, AccessFault};
 use policy::span::{OFFSETS, Span};
 use policy::traits::Policy;
+use std::marker::Model;
 
 // A memory with its guard, the registers, and a policy. A machine on figures that no machine can have refuses every call.
 #[derive(Drop)]
-pub struct Machine<M, P> {
+pub struct Machine<M: Memory, P> {
     sound: bool,
     guarded: GuardedMemory<M>,
     root: Option<u8>,
@@ -36,11 +35,19 @@ pub struct Machine<M, P> {
     policy: P,
 }
 
+impl<M: Memory, P> Model for Machine<M, P> {
+    ghost use Rattle.guard.specs.States.{State};
+
+    ghost Value = { State P };
+
+    ghost view = { λ m. record { sound = m.sound; guarded = m.guarded; root = m.root; registers = m.registers; policy = m.policy } };
+}
+
 impl<M: Memory, P: Policy> Machine<M, P> {
     // The machine that `new` makes, without the guarantee: what is proved of it there follows from this.
     fn made(memory: M, policy: P, first: u64, count: u64) -> Machine<M, P>
-        ensures whole { length (M.words memory) ≡ 512 * M.size memory }
-        ensures is { state_of M.words result ≡ new_state (M.words memory) (M.size memory) first count policy }
+        ensures whole { length (M.means.words memory) ≡ 512 * M.means.size memory }
+        ensures is { result ≡ new_state M.means memory first count policy }
     {
         let frames = memory.frames();
         let figures = LogFigures {
@@ -65,15 +72,15 @@ impl<M: Memory, P: Policy> Machine<M, P> {
 
     // A machine over a memory, with so many log frames from a first one on. On good figures the guarantee holds of every run from here.
     pub fn new(memory: M, policy: P, first: u64, count: u64) -> Machine<M, P>
-        ensures is { state_of M.words result ≡ new_state (M.words memory) (M.size memory) first count policy }
-        ensures guarantee { IsTrue (good (M.size memory) first count) → Guaranteed P.means (state_of M.words result) }
+        ensures is { result ≡ new_state M.means memory first count policy }
+        ensures guarantee { IsTrue (good (M.means.size memory) first count) → Guaranteed P.means result }
     {
         Machine::made(memory, policy, first, count)
     }
 
     // The frame of that number (10), on a machine that was made on good figures (1).
     fn frame(&self, frame: u64) -> Result<u8, Refusal>
-        ensures { result ≡ cond self.now.sound (cond (is_frame (guarded_of M.words self.now.guarded) frame) (Ok frame) (Err NoFrame)) (Err BadFigures) }
+        ensures { result ≡ cond self.now.sound (cond (is_frame (self.now.guarded) frame) (Ok frame) (Err NoFrame)) (Err BadFigures) }
     {
         if !self.sound {
             return Err(Refusal::BadFigures);
@@ -99,7 +106,7 @@ impl<M: Memory, P: Policy> Machine<M, P> {
 
     // A plain frame becomes a table of a level, and its words become zero.
     pub fn declare(&mut self, frame: u64, level: u64) -> Result<(), Refusal>
-        ensures { Step P.means (declare frame level) (done_or_refused result) (state_of M.words self.old) (state_of M.words self.new) }
+        ensures { Step P.means (declare frame level) (done_or_refused result) self.old self.new }
     {
         let table = self.frame(frame)?;
         let level = Level::new(level).ok_or(Refusal::NoLevel)?;
@@ -117,7 +124,7 @@ impl<M: Memory, P: Policy> Machine<M, P> {
 
     // An entry is put into a table.
     pub fn set(&mut self, table: u64, index: u64, entry: u64) -> Result<(), Refusal>
-        ensures { Step P.means (set table index entry) (done_or_refused result) (state_of M.words self.old) (state_of M.words self.new) }
+        ensures { Step P.means (set table index entry) (done_or_refused result) self.old self.new }
     {
         let table = self.frame(table)?;
         let Some(FrameKind::Table(level)) = self.guarded.kind(u64::from(table)) else {
@@ -155,7 +162,7 @@ impl<M: Memory, P: Policy> Machine<M, P> {
 
     // A table becomes plain.
     pub fn retire(&mut self, frame: u64) -> Result<(), Refusal>
-        ensures { Step P.means (retire frame) (done_or_refused result) (state_of M.words self.old) (state_of M.words self.new) }
+        ensures { Step P.means (retire frame) (done_or_refused result) self.old self.new }
     {
         let frame = self.frame(frame)?;
         let Some(FrameKind::Table(level)) = self.guarded.kind(u64::from(frame)) else {
@@ -172,7 +179,7 @@ impl<M: Memory, P: Policy> Machine<M, P> {
 
     // Frames become a region of so many bytes, and their words become zero.
     pub fn take(&mut self, region: u64, first: u64, length: u64) -> Result<(), Refusal>
-        ensures { Step P.means (take region first length) (done_or_refused result) (state_of M.words self.old) (state_of M.words self.new) }
+        ensures { Step P.means (take region first length) (done_or_refused result) self.old self.new }
     {
         let region = self.region(region)?;
         if self.guarded.region(u64::from(region)) != Some(RegionState::Untaken) {
@@ -208,7 +215,7 @@ impl<M: Memory, P: Policy> Machine<M, P> {
     #[tactic(auto, using(guard::proofs::Packings::all_bytes))]
     pub fn write(&mut self, region: u64, offset: u64, bytes: &[u8]) -> Result<(), Refusal>
         ensures bytes { are_bytes bytes.now ≡ true }
-        ensures step { Step P.means (write region offset bytes.now) (done_or_refused result) (state_of M.words self.old) (state_of M.words self.new) }
+        ensures step { Step P.means (write region offset bytes.now) (done_or_refused result) self.old self.new }
     {
         let region = self.region(region)?;
         let Some(RegionState::Live { length: size, .. }) = self.guarded.region(u64::from(region))
@@ -231,7 +238,7 @@ impl<M: Memory, P: Policy> Machine<M, P> {
 
     // The frames of a region become reserve frames.
     pub fn release(&mut self, region: u64) -> Result<(), Refusal>
-        ensures { Step P.means (release region) (done_or_refused result) (state_of M.words self.old) (state_of M.words self.new) }
+        ensures { Step P.means (release region) (done_or_refused result) self.old self.new }
     {
         let region = self.region(region)?;
         let Some(RegionState::Live { .. }) = self.guarded.region(u64::from(region)) else {
@@ -242,7 +249,7 @@ impl<M: Memory, P: Policy> Machine<M, P> {
 
     // A plain frame that the scanner passes becomes code.
     pub fn accept(&mut self, frame: u64) -> Result<(), Refusal>
-        ensures { Step P.means (accept frame) (done_or_refused result) (state_of M.words self.old) (state_of M.words self.new) }
+        ensures { Step P.means (accept frame) (done_or_refused result) self.old self.new }
     {
         let frame = self.frame(frame)?;
         if self.guarded.kind(u64::from(frame)) != Some(FrameKind::Plain) {
@@ -259,7 +266,7 @@ impl<M: Memory, P: Policy> Machine<M, P> {
 
     // A code frame becomes plain.
     pub fn unaccept(&mut self, frame: u64) -> Result<(), Refusal>
-        ensures { Step P.means (unaccept frame) (done_or_refused result) (state_of M.words self.old) (state_of M.words self.new) }
+        ensures { Step P.means (unaccept frame) (done_or_refused result) self.old self.new }
     {
         let frame = self.frame(frame)?;
         if self.guarded.kind(u64::from(frame)) != Some(FrameKind::Code) {
@@ -273,7 +280,7 @@ impl<M: Memory, P: Policy> Machine<M, P> {
 
     // A register other than CR3 holds the value.
     pub fn load_register(&mut self, register: Register, value: u64) -> Result<(), Refusal>
-        ensures { Step P.means (load_register register value) (done_or_refused result) (state_of M.words self.old) (state_of M.words self.new) }
+        ensures { Step P.means (load_register register value) (done_or_refused result) self.old self.new }
     {
         if !self.sound {
             return Err(Refusal::BadFigures);
@@ -287,7 +294,7 @@ impl<M: Memory, P: Policy> Machine<M, P> {
 
     // CR3 holds the value, and the frame in its bits 12 to 51 is the root.
     pub fn load_root(&mut self, value: u64) -> Result<(), Refusal>
-        ensures { Step P.means (load_root value) (done_or_refused result) (state_of M.words self.old) (state_of M.words self.new) }
+        ensures { Step P.means (load_root value) (done_or_refused result) self.old self.new }
     {
         let frame = self.frame(Entry(value).frame())?;
         if self.guarded.kind(u64::from(frame)) != Some(FrameKind::Table(Level::Four)) {
@@ -300,7 +307,7 @@ impl<M: Memory, P: Policy> Machine<M, P> {
 
     // The word at an address.
     pub fn load(&self, address: u64) -> Result<u64, AccessFault>
-        ensures { Step P.means (load address) (word_or_faulted result) (state_of M.words self.now) (state_of M.words self.now) }
+        ensures { Step P.means (load address) (word_or_faulted result) self.now self.now }
     {
         if !self.sound {
             return Err(AccessFault::BadFigures);
@@ -310,7 +317,7 @@ impl<M: Memory, P: Policy> Machine<M, P> {
 
     // The word at an address is replaced.
     pub fn store(&mut self, address: u64, value: u64) -> Result<(), AccessFault>
-        ensures { Step P.means (store address value) (done_or_faulted result) (state_of M.words self.old) (state_of M.words self.new) }
+        ensures { Step P.means (store address value) (done_or_faulted result) self.old self.new }
     {
         if !self.sound {
             return Err(AccessFault::BadFigures);
@@ -320,7 +327,7 @@ impl<M: Memory, P: Policy> Machine<M, P> {
 
     // The word at an address, to be executed.
     pub fn fetch(&self, address: u64) -> Result<u64, AccessFault>
-        ensures { Step P.means (fetch address) (word_or_faulted result) (state_of M.words self.now) (state_of M.words self.now) }
+        ensures { Step P.means (fetch address) (word_or_faulted result) self.now self.now }
     {
         if !self.sound {
             return Err(AccessFault::BadFigures);
@@ -330,8 +337,8 @@ impl<M: Memory, P: Policy> Machine<M, P> {
 
     // The words of the journal that are held are copied to the front of a list, and the journal holds none; or the list is too short (34), and nothing is changed.
     pub fn drain(&mut self, list: &mut [u64]) -> Result<u64, Refusal>
-        ensures step { Step P.means (drain (length list.old)) (drained_or_refused result) (state_of M.words self.old) (state_of M.words self.new) }
-        ensures list { list.new ≡ with_piece (piece (drain (length list.old)) (drained_or_refused result) (state_of M.words self.old)) list.old }
+        ensures step { Step P.means (drain (length list.old)) (drained_or_refused result) self.old self.new }
+        ensures list { list.new ≡ with_piece (piece (drain (length list.old)) (drained_or_refused result) self.old) list.old }
     {
         if !self.sound {
             return Err(Refusal::BadFigures);
@@ -342,7 +349,7 @@ impl<M: Memory, P: Policy> Machine<M, P> {
     // Carries out a call.
     pub fn perform(&mut self, call: Call<'_>) -> Answer
         ensures bytes { are_bytes (bytes_of_write (request_of call.entry)) ≡ true }
-        ensures step { Step P.means (request_of call.entry) result (state_of M.words self.old) (state_of M.words self.new) }
+        ensures step { Step P.means (request_of call.entry) result self.old self.new }
     {
         match call {
             Call::Declare { frame, level } => self.declare(frame, level).into(),

@@ -4,7 +4,6 @@ ghost use Rattle.std.specs.Prelude.{◌≡◌, ◌≤◌, IsTrue, length};
 ghost use Rattle.guard.specs.States.{good, new_state};
 ghost use Rattle.guard.specs.Steps.{piece, with_piece};
 ghost use Rattle.guarantee.specs.Guarantee.{Guaranteed, Happens};
-ghost use Rattle.machine.specs.Machines.{state_of};
 ghost use Rattle.machine.specs.Runs.{RunOf, drained_in, event_of, task_request};
 
 use crate::machine::Machine;
@@ -33,9 +32,9 @@ impl<M: Memory, P: Policy> Machine<M, P> {
     // Carries out a task; a drain fills the front of the list.
     #[tactic(auto, using(crate::proofs::Running::quiet, crate::proofs::Running::drained_counts, crate::proofs::Running::fits))]
     fn carry_out(&mut self, task: Task<'_>, list: &mut [u64]) -> Answer
-        ensures happens { Happens P.means (event_of (task_request task.entry (length list.old)) result (state_of M.words self.old)) (state_of M.words self.old) (state_of M.words self.new) }
-        ensures list { list.new ≡ with_piece (piece (task_request task.entry (length list.old)) result (state_of M.words self.old)) list.old }
-        ensures count { drained_in result ≡ length (piece (task_request task.entry (length list.old)) result (state_of M.words self.old)) }
+        ensures happens { Happens P.means (event_of (task_request task.entry (length list.old)) result self.old) self.old self.new }
+        ensures list { list.new ≡ with_piece (piece (task_request task.entry (length list.old)) result self.old) list.old }
+        ensures count { drained_in result ≡ length (piece (task_request task.entry (length list.old)) result self.old) }
         ensures within { drained_in result ≤ length list.old }
     {
         match task {
@@ -51,7 +50,7 @@ impl<M: Memory, P: Policy> Machine<M, P> {
         answers: &mut [Answer],
         archive: &mut [u64],
     ) -> usize
-        ensures { RunOf P.means tasks.now (state_of M.words self.old) (state_of M.words self.new) answers.old answers.new archive.old archive.new result }
+        ensures { RunOf P.means tasks.now self.old self.new answers.old answers.new archive.old archive.new result }
     {
         let mut drained = 0;
         for (index, task) in tasks.iter().enumerate() {
@@ -67,7 +66,7 @@ impl<M: Memory, P: Policy> Machine<M, P> {
 
 // A machine after a run, and how many words of the archive the run filled.
 #[derive(Drop)]
-pub struct Ran<M, P> {
+pub struct Ran<M: Memory, P> {
     pub machine: Machine<M, P>,
     pub drained: usize,
 }
@@ -83,8 +82,8 @@ pub fn run<M: Memory, P: Policy>(
     answers: &mut [Answer],
     archive: &mut [u64],
 ) -> Ran<M, P>
-    ensures ran { RunOf P.means tasks.now (new_state (M.words memory) (M.size memory) first count policy) (state_of M.words result.machine) answers.old answers.new archive.old archive.new result.drained }
-    ensures guarantee { IsTrue (good (M.size memory) first count) → Guaranteed P.means (new_state (M.words memory) (M.size memory) first count policy) }
+    ensures ran { RunOf P.means tasks.now (new_state M.means memory first count policy) result.machine answers.old answers.new archive.old archive.new result.drained }
+    ensures guarantee { IsTrue (good (M.means.size memory) first count) → Guaranteed P.means (new_state M.means memory first count policy) }
 {
     let mut machine = Machine::new(memory, policy, first, count);
     let drained = machine.carry_out_all(tasks, answers, archive);

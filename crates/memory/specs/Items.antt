@@ -8,7 +8,7 @@
 --   list_laws   that whatever holds a list of items is a memory
 use Rattle.std.specs.Prelude.{◌≡◌, ℕ, ◌+◌, ◌*◌, ◌^◌, ◌<◌, ◌≤◌, List, ◌++◌, length, take, drop, replicate, slice_index, slice_set}
 use Rattle.std.proofs.Common.{arith}
-use Rattle.memory.specs.Memories.{behind, frames_in, Lawful}
+use Rattle.memory.specs.Memories.{behind, frames_in, list_means, Lawful}
 
 -- The items of word i, where each word is n of them.
 abbrev pub part : {Item : Type 0} → ℕ → List Item → ℕ → List Item
@@ -49,8 +49,8 @@ pub record Shows {Item : Type 0} (n : ℕ) (word : List Item → ℕ) (items : �
   pub same : (list : List Item) (i w : ℕ) → i < 512 * frames_in (512 * n) list → frames_in (512 * n) (put list i w) ≡ frames_in (512 * n) list
 
 -- Whatever holds a list of items is a memory by the words of that list.
-pub list_laws : {Item Self : Type 0} {n : ℕ} {word : List Item → ℕ} {items : ℕ → List Item} {nought : Item} {words : List Item → List ℕ} {put : List Item → ℕ → ℕ → List Item} → Shows n word items nought words put → (list : Self → List Item) → Lawful (λ m. words (list m)) (λ m. frames_in (512 * n) (list m))
-list_laws shows list = record {
+pub list_laws : {Item Self : Type 0} {n : ℕ} {word : List Item → ℕ} {items : ℕ → List Item} {nought : Item} {words : List Item → List ℕ} {put : List Item → ℕ → ℕ → List Item} → Shows n word items nought words put → (numbers : List Item → List ℕ) (list : Self → List Item) (loans : Self → List ℕ) → Lawful (list_means n words numbers list loans)
+list_laws shows numbers list loans = record {
   whole = λ m. shows.item.whole (list m);
   few = λ m. omega arith;
 }

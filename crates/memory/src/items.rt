@@ -20,6 +20,9 @@ pub trait Item<const N: usize>: Copy {
     // The item of which the word 0 is made.
     ghost nought: { Self };
 
+    // The items of a list as numbers.
+    ghost numbers: { List Self → List ℕ };
+
     // The words of the whole frames of a list.
     ghost words: { List Self → List ℕ };
 
@@ -53,6 +56,8 @@ impl Item<1> for u64 {
     ghost nought = { 0 };
 
     ghost clones = { λ _ _ same. same };
+
+    ghost numbers = { λ list. list };
 
     ghost words = { shown };
 
@@ -88,6 +93,8 @@ impl Item<8> for u8 {
     ghost nought = { 0 };
 
     ghost clones = { λ _ _ same. same };
+
+    ghost numbers = { λ list. list };
 
     ghost words = { words_of };
 

@@ -1,8 +1,8 @@
 // The two kinds of memory: over a lent list of words, and over a lent list of bytes.
 
-ghost use Rattle.std.specs.Prelude.{◌≡◌, ◌*◌, ◌≤◌, length, nat_lt, slice_set};
+ghost use Rattle.std.specs.Prelude.{◌≡◌, ◌*◌, ◌≤◌, [], ◌∷◌, length, nat_lt, slice_set};
 ghost use Rattle.memory.specs.Items.{list_laws};
-ghost use Rattle.memory.specs.Memories.{behind, frames_in, word_at, written};
+ghost use Rattle.memory.specs.Memories.{behind, beside_list, frames_in, list_means, word_at, written};
 
 use crate::items::Item;
 use crate::list;
@@ -32,11 +32,9 @@ impl<'a, T: Item<N>, const N: usize> Lent<'a, T, N> {
 }
 
 impl<T: Item<N>, const N: usize> Memory for Lent<'_, T, N> {
-    ghost words = { λ m. T.words m.list.now };
+    ghost means = { list_means N T.words T.numbers (λ m. m.list.now) (λ m. m.list.ghost_name ∷ []) };
 
-    ghost size = { λ m. frames_in (512 * N) m.list.now };
-
-    ghost laws = { list_laws T.laws (λ m. m.list.now) };
+    ghost laws = { list_laws T.laws T.numbers (λ m. m.list.now) (λ m. m.list.ghost_name ∷ []) };
 
     fn frames(&self) -> u64
         ensures is { result ≡ frames_in (512 * N) self.now.list.now }
@@ -58,6 +56,7 @@ impl<T: Item<N>, const N: usize> Memory for Lent<'_, T, N> {
         ensures after { T.words self.new.list.now ≡ slice_set (T.words self.old.list.now) index value }
         ensures list { self.new.list.now ≡ written N T.put self.old.list.now index value }
         ensures rest { behind (512 * N) self.new.list.now ≡ behind (512 * N) self.old.list.now }
+        ensures kept { beside_list N T.numbers self.new.list.now (self.new.list.ghost_name ∷ []) ≡ beside_list N T.numbers self.old.list.now (self.old.list.ghost_name ∷ []) }
         ensures lender { self.new.list.ghost_name ≡ self.old.list.ghost_name }
     {
         list::write(self.list, index, value)

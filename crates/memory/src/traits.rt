@@ -1,7 +1,7 @@
 // What every kind of memory does.
 
-ghost use Rattle.std.specs.Prelude.{◌≡◌, ℕ, ◌*◌, ◌≤◌, List, length, nat_lt, slice_set};
-ghost use Rattle.memory.specs.Memories.{Lawful, word_at};
+ghost use Rattle.std.specs.Prelude.{◌≡◌, ◌*◌, ◌≤◌, length, nat_lt, slice_set};
+ghost use Rattle.memory.specs.Memories.{Lawful, Meaning, word_at};
 
 // A frame is 4,096 bytes.
 pub const FRAME_WORDS: u64 = 512;
@@ -11,29 +11,27 @@ pub const MOST_FRAMES: u64 = 256;
 
 // Some whole frames of words, whose count never changes.
 pub trait Memory {
-    // Its words, in the order of their indices.
-    ghost words: { Self → List ℕ };
-
-    // Its count of frames.
-    ghost size: { Self → ℕ };
+    // Its words, how many frames they are, and what stands beside them.
+    ghost means: { Meaning Self };
 
     // How many frames there are.
     fn frames(&self) -> u64
-        ensures is { result ≡ size self.now }
-        ensures whole { length (words self.now) ≡ 512 * result }
+        ensures is { result ≡ means.size self.now }
+        ensures whole { length (means.words self.now) ≡ 512 * result }
         ensures few { result ≤ 256 };
 
     // The word at the index, or nothing where there is none.
     fn read(&self, index: u64) -> Option<u64>
-        ensures { result ≡ word_at (words self.now) index };
+        ensures { result ≡ word_at (means.words self.now) index };
 
     // Replaces the word at the index and says yes, or says no where there is none: a plain bool, as a set's `insert`
     // answers, for no value stands beside it.
     fn write(&mut self, index: u64, value: u64) -> bool
-        ensures same { size self.new ≡ size self.old }
-        ensures done { result ≡ nat_lt index (length (words self.old)) }
-        ensures after { words self.new ≡ slice_set (words self.old) index value };
+        ensures same { means.size self.new ≡ means.size self.old }
+        ensures done { result ≡ nat_lt index (length (means.words self.old)) }
+        ensures after { means.words self.new ≡ slice_set (means.words self.old) index value }
+        ensures kept { means.beside self.new ≡ means.beside self.old };
 
     // What holds of all of these.
-    ghost laws: { Lawful words size };
+    ghost laws: { Lawful means };
 }

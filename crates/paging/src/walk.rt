@@ -33,7 +33,7 @@ fn read_entry<M: Memory>(
 ) -> Result<Found, WalkFault>
     requires table { table < 2 ^ 40 }
     requires index { part_at level parts < 512 }
-    ensures { let word = entry_at (M.words memory.now) table (part_at level parts) in result ≡ or_fault (present word) (record { entry = record { 0 = word }; level = level; table = table }) Lack.Absent level table }
+    ensures { let word = entry_at (M.means.words memory.now) table (part_at level parts) in result ≡ or_fault (present word) (record { entry = record { 0 = word }; level = level; table = table }) Lack.Absent level table }
 {
     let at = FRAME_WORDS * table + u64::from(parts.index(level));
     let entry = Entry(memory.read(at).unwrap_or(0));
@@ -71,7 +71,7 @@ impl Found {
 
 // The frame that an address reaches from the root on. Presence is asked at all four levels before what the access needs.
 fn reach<M: Memory>(memory: &M, root: u8, address: u64, access: Access) -> Result<u64, WalkFault>
-    ensures is { result ≡ walked (M.words memory.now) root address access }
+    ensures is { result ≡ walked (M.means.words memory.now) root address access }
     ensures few { IfOk result (λ frame. frame < 2 ^ 40) }
 {
     let parts = split(address);
@@ -89,7 +89,7 @@ fn reach<M: Memory>(memory: &M, root: u8, address: u64, access: Access) -> Resul
 // The same, and what such answers mean: this follows from the other, of any memory.
 #[tactic(auto, using(crate::proofs::Walking::answers_translate, crate::proofs::Walking::faults_say))]
 pub fn walk<M: Memory>(memory: &M, root: u8, address: u64, access: Access) -> Result<u64, WalkFault>
-    ensures is { result ≡ walked (M.words memory.now) root address access }
+    ensures is { result ≡ walked (M.means.words memory.now) root address access }
     ensures few { IfOk result (λ frame. frame < 2 ^ 40) }
     ensures answers { AnswersTranslate }
     ensures faults { FaultsSay }
@@ -104,9 +104,9 @@ pub fn translate<M: Memory>(
     address: u64,
     access: Access,
 ) -> Result<u64, AccessFault>
-    ensures number { refusal fault_number result ≡ first_no (access_questions (M.words memory.now) root address access) }
-    ensures reaches { IfOk result (λ index. IfSome root (λ r. index ≡ place_reached (M.words memory.now) r address)) }
-    ensures carries { result ≡ translated (M.words memory.now) root address access }
+    ensures number { refusal fault_number result ≡ first_no (access_questions (M.means.words memory.now) root address access) }
+    ensures reaches { IfOk result (λ index. IfSome root (λ r. index ≡ place_reached (M.means.words memory.now) r address)) }
+    ensures carries { result ≡ translated (M.means.words memory.now) root address access }
 {
     if !is_canonical(address) {
         return Err(AccessFault::NotCanonical);

@@ -35,7 +35,6 @@ use Rattle.guard.specs.States.{State}
 use Rattle.guard.specs.Steps.{is_answer_to}
 use Rattle.journal.specs.Figures.{figure_number, figure_questions}
 use Rattle.journal.specs.Questions.{first_no}
-use Rattle.machine.specs.Machines.{state_of}
 use Rattle.paging.specs.Addresses.{parts_of}
 use Rattle.paging.specs.declared.faults.Stopped.{Stopped}
 use Rattle.paging.specs.declared.parts.Split.{Split}
@@ -59,7 +58,7 @@ pub record Held : Type 0 where
 -- what a setup of the program holds
 abbrev pub basis_of : Stage → Basis
 basis_of (stage.Supplied list) = supplied (supplied_words list)
-basis_of (stage.Machine made) = machined made.figures (state_of supplied_words made.machine)
+basis_of (stage.Machine made) = machined made.figures made.machine
 
 abbrev pub held : Setup → Held
 held setup = record { basis = basis_of setup.stage; kept = vec_items setup.journal }

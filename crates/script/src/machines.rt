@@ -3,7 +3,6 @@ ghost use Rattle.std.specs.Prelude.{◌≡◌, ◌≤◌, true, [], vec_len, Som
 ghost use Rattle.std.specs.Option.{option_map};
 ghost use Rattle.guard.specs.Calls.{count_in, drain, number_in, request_of, stopped_in_answer, word_in};
 ghost use Rattle.guard.specs.Steps.{is_answer_to};
-ghost use Rattle.machine.specs.Machines.{state_of};
 ghost use Rattle.script.specs.Machines.{call_after, call_count, call_number, call_stop, call_text, call_word, call_words, copied_text, frames_shown, log_figures, made_text, new_machine, new_policies, parts_text};
 ghost use Rattle.script.specs.Supplies.{supplied_words};
 ghost use Rattle.journal.specs.Figures.{figure_number};
@@ -45,7 +44,7 @@ impl Made {
     // A machine over a memory, with so many log frames from a first one on.
     #[tactic(auto, unfolding(crate::specs::Machines::new_machine))]
     pub(crate) fn new(memory: Supplied, first: u64, count: u64) -> Made
-        ensures is { state_of supplied_words result.machine ≡ new_machine (supplied_words memory) first count }
+        ensures is { result.machine ≡ new_machine (supplied_words memory) first count }
         ensures figure { result.figures ≡ log_figures (frames_shown (supplied_words memory)) first count }
     {
         let figures = LogFigures {
@@ -62,13 +61,13 @@ impl Made {
     // Carries out a call on it. It is no drain, and copies out no words.
     #[tactic(auto, unfolding(crate::specs::Machines::call_number, crate::specs::Machines::call_stop, crate::specs::Machines::call_word, crate::specs::Machines::call_count, crate::specs::Machines::call_after), using(crate::proofs::Copied::nothing_copied))]
     pub(crate) fn perform(&mut self, call: Call<'_>) -> Answer
-        ensures number { number_in result ≡ call_number (request_of call.entry) (state_of supplied_words self.old.machine) }
-        ensures stops { stopped_in_answer result ≡ call_stop (request_of call.entry) (state_of supplied_words self.old.machine) }
-        ensures word { word_in result ≡ call_word (request_of call.entry) (state_of supplied_words self.old.machine) }
-        ensures count { count_in result ≡ call_count (request_of call.entry) (state_of supplied_words self.old.machine) }
-        ensures words { call_words (request_of call.entry) (state_of supplied_words self.old.machine) ≡ [] }
+        ensures number { number_in result ≡ call_number (request_of call.entry) self.old.machine }
+        ensures stops { stopped_in_answer result ≡ call_stop (request_of call.entry) self.old.machine }
+        ensures word { word_in result ≡ call_word (request_of call.entry) self.old.machine }
+        ensures count { count_in result ≡ call_count (request_of call.entry) self.old.machine }
+        ensures words { call_words (request_of call.entry) self.old.machine ≡ [] }
         ensures form { is_answer_to (request_of call.entry) result ≡ true }
-        ensures after { state_of supplied_words self.new.machine ≡ call_after (request_of call.entry) (state_of supplied_words self.old.machine) }
+        ensures after { self.new.machine ≡ call_after (request_of call.entry) self.old.machine }
         ensures same { self.new.figures ≡ self.old.figures }
     {
         self.machine.perform(call)
@@ -77,14 +76,14 @@ impl Made {
     // Drains its journal into a list, of which the words that were copied out are left.
     #[tactic(auto, unfolding(crate::specs::Machines::call_number, crate::specs::Machines::call_stop, crate::specs::Machines::call_word, crate::specs::Machines::call_count, crate::specs::Machines::call_words, crate::specs::Machines::call_after), using(crate::proofs::Told::back, crate::proofs::Copied::front, crate::proofs::Copied::held_long))]
     pub(crate) fn drain(&mut self, list: &mut Vec<u64>) -> Answer
-        ensures number { number_in result ≡ call_number (drain (vec_len list.old)) (state_of supplied_words self.old.machine) }
-        ensures stops { stopped_in_answer result ≡ call_stop (drain (vec_len list.old)) (state_of supplied_words self.old.machine) }
-        ensures word { word_in result ≡ call_word (drain (vec_len list.old)) (state_of supplied_words self.old.machine) }
-        ensures count { count_in result ≡ call_count (drain (vec_len list.old)) (state_of supplied_words self.old.machine) }
-        ensures words { list.new.items ≡ call_words (drain (vec_len list.old)) (state_of supplied_words self.old.machine) }
+        ensures number { number_in result ≡ call_number (drain (vec_len list.old)) self.old.machine }
+        ensures stops { stopped_in_answer result ≡ call_stop (drain (vec_len list.old)) self.old.machine }
+        ensures word { word_in result ≡ call_word (drain (vec_len list.old)) self.old.machine }
+        ensures count { count_in result ≡ call_count (drain (vec_len list.old)) self.old.machine }
+        ensures words { list.new.items ≡ call_words (drain (vec_len list.old)) self.old.machine }
         ensures few { vec_len list.new ≤ vec_len list.old }
         ensures form { is_answer_to (drain (vec_len list.old)) result ≡ true }
-        ensures after { state_of supplied_words self.new.machine ≡ call_after (drain (vec_len list.old)) (state_of supplied_words self.old.machine) }
+        ensures after { self.new.machine ≡ call_after (drain (vec_len list.old)) self.old.machine }
         ensures same { self.new.figures ≡ self.old.figures }
     {
         match self.machine.drain(list.as_mut_slice()) {
