@@ -1,4 +1,5 @@
 -- Numbers that pass a test, one after the other.
+use Rattle.std.proofs.lemmas.List.{drop_all, drop_more}
 use Rattle.std.proofs.Common.{◌≡◌, ℕ, zero, suc, ◌+◌, ◌<◌, ◌≤◌, Bool, true, false, not, List, Option, Some, None, length, ◌++◌, ◌*◌, drop, slice_index, append-nil, ◌&&◌, ◌||◌, ⊎_elim, slice_get, sym, refl, ap, ◌∙◌, arith}
 use Rattle.std.proofs.lemmas.Bool.{cases_Bool, cases_eq, false≢true}
 use Rattle.std.proofs.lemmas.Bool.Decides.{nat_tests}
@@ -10,8 +11,6 @@ use Rattle.journal.specs.declared.kinds.FrameKind.TheVariants as kind
 use Rattle.journal.specs.declared.kinds.Level.TheVariants.{One, Two, Three, Four}
 use Rattle.std.proofs.lemmas.List.FromFn.{get_or-map-range_with_len, length-map-range_with_len}
 use Rattle.memory.specs.ByteOrder.{bytes_of}
-use Rattle.scanner.proofs.Runs.{items_more, items_none}
-use Rattle.scanner.specs.CodeLaws.{word_laws}
 use Rattle.scanner.specs.Rule.{bytes_of_words, passing}
 use Rattle.scanner.specs.States.{Fed, seen}
 use Rattle.scanner.specs.declared.scan.State.{State}
@@ -80,9 +79,10 @@ table_wanted words kinds level sought n k m r is found all low = one_fails _ n k
 
 -- (the bytes of the words from one on are its own, and then those of the rest)
 word_bytes : (words : List ℕ) (frame i w : ℕ) → w ≡ slice_index words (512 * frame + i) → i < 512 → bytes_of_words (drop i (frame_words words frame)) ≡ bytes_of w ++ bytes_of_words (drop (i + 1) (frame_words words frame))
+unfolding bytes_of_words
 word_bytes words frame i w is low =
-    items_more word_laws (frame_words words frame) i w (omega (arith, low, length-map-range_with_len (slice_index words) (512 * frame) 512))
-    (is ∙ sym (get_or-map-range_with_len (slice_index words) (512 * frame) 512 i (512 * frame + i) w low refl))
+    ap bytes_of_words (drop_more (frame_words words frame) i 0 (omega (arith, low, length-map-range_with_len (slice_index words) (512 * frame) 512)))
+    ∙ ap (λ x. bytes_of x ++ bytes_of_words (drop (i + 1) (frame_words words frame))) (get_or-map-range_with_len (slice_index words) (512 * frame) 512 i (512 * frame + i) 0 low refl ∙ sym is)
 
 pub fed_on : (words : List ℕ) (frame i w : ℕ) (r : Bool) (s t : State) → Fed s (bytes_of w) r t → w ≡ slice_index words (512 * frame + i) → i < 512 → left_to_scan words frame i s ≡ (r && left_to_scan words frame (i + 1) t)
 unfolding left_to_scan
@@ -103,10 +103,10 @@ frame_stop words frame i r s t step failed so = sym (ap (λ b. b && left_to_scan
 
 -- and behind the last it passes where a run may end.
 pub frame_end : (words : List ℕ) (frame i : ℕ) (r : Bool) (s : State) → left_to_scan words frame i s ≡ scanned words frame → 512 ≤ i → r ≡ passing (seen s) → r ≡ scanned words frame
-unfolding left_to_scan
+unfolding left_to_scan bytes_of_words scanned
 frame_end words frame i r s so past is =
     is ∙ ap passing (sym (append-nil (seen s)))
-    ∙ ap (λ bs. passing (seen s ++ bs)) (sym (items_none word_laws (frame_words words frame) i (omega (arith, past, length-map-range_with_len (slice_index words) (512 * frame) 512))))
+    ∙ ap (λ bs. passing (seen s ++ bs)) (sym (ap bytes_of_words (drop_all i (frame_words words frame) (omega (arith, past, length-map-range_with_len (slice_index words) (512 * frame) 512)))))
     ∙ so
 
 -- Where all numbers pass, each does, and the other way round.

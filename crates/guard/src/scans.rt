@@ -8,7 +8,7 @@ use crate::guarded::GuardedMemory;
 use journal::kinds::{FrameKind, Level};
 use memory::traits::{FRAME_WORDS, Memory};
 use paging::entries::Entry;
-use scanner::{Code, Scanner};
+use scanner::Scanner;
 
 // Which entries are looked for.
 #[derive(Clone, Copy, Debug, PartialEq, Eq)]
@@ -70,7 +70,7 @@ fn scan_word<M: Memory>(memory: &M, frame: u64, index: u64, scanner: &mut Scanne
     ensures { left_to_scan (M.means.words memory.now) frame index scanner.old ≡ (result && left_to_scan (M.means.words memory.now) frame (index + 1) scanner.new) }
 {
     let Entry(word) = entry_of(memory, frame, index);
-    word.feed_to(scanner).is_ok()
+    scanner.feed_word(word).is_ok()
 }
 
 // Whether the scanner passes the bytes of a frame.

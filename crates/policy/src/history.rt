@@ -12,18 +12,11 @@ pub struct Write {
     pub span: Span,
 }
 
-// Tells the policy of each write: the loop of `tell_all`, apart so that a bug there is found in its code.
-fn tell_each<P: Policy>(policy: &mut P, writes: &[Write])
+// Tells the policy of writes, in their order. At every point of such a history, what was closed before is closed.
+pub fn tell_all<P: Policy>(policy: &mut P, writes: &[Write])
     ensures { History P.means policy.old writes.now policy.new }
 {
     for write in writes {
         policy.told(write.region, write.span);
     }
-}
-
-// Tells the policy of writes, in their order. At every point of such a history, what was closed before is closed.
-pub fn tell_all<P: Policy>(policy: &mut P, writes: &[Write])
-    ensures { History P.means policy.old writes.now policy.new }
-{
-    tell_each(policy, writes);
 }

@@ -5,7 +5,6 @@
 pub mod append_only;
 pub mod free;
 pub mod history;
-mod kind;
 pub mod pair;
 pub mod span;
 #[cfg(test)]

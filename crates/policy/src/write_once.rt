@@ -1,12 +1,12 @@
 // The kind whose every offset is written once.
 
 ghost use Rattle.std.specs.Prelude.{◌≡◌, ℕ};
-ghost use Rattle.policy.specs.Kinds.{alone, below, flagged, write_once_close, write_once_openness, write_once_opens};
-ghost use Rattle.policy.specs.Laws.{write_once_facts};
+ghost use Rattle.policy.specs.Kinds.{alone, kind_after, kind_means, kind_opens, left_open, one_region, below, flagged, write_once_close, write_once_openness, write_once_opens};
+ghost use Rattle.policy.specs.Laws.{kind_laws, write_once_facts};
 ghost use Rattle.policy.specs.Spans.{covers};
 
-use crate::kind::Kind;
 use crate::span::Span;
+use crate::traits::Policy;
 
 // A write-once region has so many offsets that can be written.
 pub const ONCE: u64 = 4096;
@@ -33,23 +33,30 @@ impl WriteOnce {
     }
 }
 
-impl Kind for WriteOnce {
-    ghost openness = { write_once_openness };
+impl Policy for WriteOnce {
+    ghost means = { kind_means write_once_openness write_once_close };
 
-    ghost closes = { covers };
+    ghost laws = { kind_laws write_once_facts };
 
-    ghost close = { write_once_close };
+    fn regions(&self) -> u64 {
+        1
+    }
 
-    ghost facts = { write_once_facts };
-
-    #[tactic(auto, using(crate::proofs::Flags::stretch_open, crate::proofs::Flags::past_flags))]
-    fn open(&self, span: Span) -> bool {
-        span.end() <= ONCE
+    #[tactic(auto, using(crate::specs::Laws::permitted_alone, crate::proofs::Flags::stretch_open, crate::proofs::Flags::past_flags))]
+    fn permits(&self, region: u64, span: Span) -> bool {
+        region == 0
+            && span.end() <= ONCE
             && !self.fresh[span.offset() as usize..span.end() as usize].contains(&false)
     }
 
-    #[tactic(auto, using(crate::proofs::Flags::inside, crate::proofs::Flags::filled))]
-    fn close(&mut self, span: Span) {
-        self.fresh[span.offset() as usize..span.end() as usize].fill(false);
+    #[tactic(auto, using(crate::proofs::Permitting::write_once_left, crate::specs::Laws::permitted_alone, crate::proofs::Flags::inside, crate::proofs::Flags::filled))]
+    fn told(&mut self, region: u64, span: Span)
+        ensures after { self.new ≡ kind_after write_once_openness write_once_close self.old region span.offset span.length }
+        ensures same { one_region self.new ≡ one_region self.old }
+        ensures closes { (r o : ℕ) → kind_opens write_once_openness self.new r o ≡ left_open (covers span.offset span.length) (kind_opens write_once_openness self.old) region span.offset span.length r o }
+    {
+        if self.permits(region, span) {
+            self.fresh[span.offset() as usize..span.end() as usize].fill(false);
+        }
     }
 }

@@ -1,12 +1,11 @@
 -- A run that is fed part by part, for a loop over bytes or words, in this crate or above it:
 -- `start` holds before the loop, `more` steps it, `stop` serves the return at a refusal, and `done` the end.
-use Rattle.std.proofs.Common.{◌≡◌, ℕ, ◌+◌, ◌<◌, ◌≤◌, Bool, true, false, cond, List, [], ◌∷◌, ◌++◌, length, get_or, drop, sym, refl, ap, ◌∙◌}
+use Rattle.std.proofs.Common.{◌≡◌, ℕ, Bool, true, false, cond, List, [], ◌∷◌, ◌++◌, sym, refl, ap, ◌∙◌}
 use Rattle.scanner.proofs.Means.{fed}
 use Rattle.scanner.specs.Classes.{class_of}
-use Rattle.scanner.specs.Codes.{IsCode}
 use Rattle.scanner.specs.States.{Fed, step, feed_all}
 use Rattle.scanner.specs.declared.scan.State.{State}
-use Rattle.std.proofs.lemmas.List.{drop_all, drop_more}
+use Rattle.scanner.specs.declared.classes.ByteClass.{ByteClass}
 
 -- from the state s, a run `all` has been fed but for `rest`, and the state is t
 pub record Sofar (s : State) (all rest : List ℕ) (t : State) : Type 0 where
@@ -54,26 +53,11 @@ pub done : (s t : State) (all rest : List ℕ) → Sofar s all rest t → rest �
 unfolding feed_all
 done s t all rest h e = fed s all true t (sym (ap (feed_all t) e) ∙ h.left)
 
--- one byte that was fed
-pub fed_byte : (s t : State) (b : ℕ) (r : Bool) → (r, t) ≡ step s (class_of b) → Fed s (b ∷ []) r t
+-- one byte that was fed, by its class
+pub fed_byte : (s t : State) (b : ℕ) (r : Bool) (c : ByteClass) → (r, t) ≡ step s c → c ≡ class_of b → Fed s (b ∷ []) r t
 unfolding feed_all
-fed_byte s t b r e = fed s (b ∷ []) r t (e ∙ alone (step s (class_of b)))
+fed_byte s t b r c e is = fed s (b ∷ []) r t (e ∙ ap (step s) is ∙ alone (step s (class_of b)))
   where
     alone : (p : Bool × State) → p ≡ cond p.0 (true, p.1) p
     alone (true, u) = refl
     alone (false, u) = refl
-
--- the bytes of the items from the place i on: those of the item x there, then the rest
-pub items_more :
-    {Item : Type 0} {bytes : Item → List ℕ} {run : List Item → List ℕ} → IsCode bytes run →
-    (items : List Item) (i : ℕ) (x : Item) → i < length items → x ≡ get_or items i x →
-    run (drop i items) ≡ bytes x ++ run (drop (i + 1) items)
-items_more {bytes = bytes} {run = run} code items i x h is =
-    ap run (drop_more items i x h) ∙ code.more (get_or items i x) (drop (i + 1) items) ∙
-    ap (λ y. bytes y ++ run (drop (i + 1) items)) (sym is)
-
--- past the last item there are none
-pub items_none :
-    {Item : Type 0} {bytes : Item → List ℕ} {run : List Item → List ℕ} → IsCode bytes run →
-    (items : List Item) (i : ℕ) → length items ≤ i → run (drop i items) ≡ []
-items_none {run = run} code items i h = ap run (drop_all i items h) ∙ code.none

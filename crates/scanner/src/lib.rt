@@ -12,5 +12,5 @@ pub mod scan;
 mod tests;
 
 pub use classes::{ByteClass, class};
-pub use code::{Code, passes};
+pub use code::passes;
 pub use scan::{Forbidden, Scanner, State};

@@ -1,13 +1,12 @@
 // The scanner: its states, and one byte.
 
 ghost use Rattle.std.specs.Prelude.{◌≡◌, ℕ, ◌&&◌, List, ◌∷◌, ◌++◌, Some, is_ok};
-ghost use Rattle.scanner.specs.Classes.{class_of};
 ghost use Rattle.scanner.specs.Rule.{passing};
 ghost use Rattle.scanner.specs.States.{forbidden, seen, step};
 ghost use Rattle.scanner.specs.declared.scan.State.{State};
 ghost use Rattle.scanner.specs.declared.scan.State.TheVariants.{Nothing};
 
-use crate::classes::{ByteClass, class};
+use crate::classes::ByteClass;
 use std::error::Error;
 use std::fmt;
 use std::marker::Model;
@@ -64,12 +63,11 @@ impl Scanner {
         }
     }
 
-    // Takes the next byte. Where it completes a forbidden sequence, the state stays as it was.
-    pub fn feed(&mut self, byte: u8) -> Result<(), Forbidden>
-        ensures exact { (is_ok result, self.new) ≡ step self.old (class_of byte) }
-        ensures means { (xs : List ℕ) → passing (seen self.old ++ (byte ∷ xs)) ≡ (is_ok result && passing (seen self.new ++ xs)) }
+    // Takes the class of the next byte. Where it completes a forbidden sequence, the state stays as it was.
+    pub fn feed(&mut self, class: ByteClass) -> Result<(), Forbidden>
+        ensures { (is_ok result, self.new) ≡ step self.old class }
     {
-        self.state = match (self.state, class(byte)) {
+        self.state = match (self.state, class) {
             (State::Lead, ByteClass::Writes) | (State::Group, ByteClass::Loads) => {
                 return Err(Forbidden);
             }

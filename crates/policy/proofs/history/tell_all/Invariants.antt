@@ -1,6 +1,6 @@
 -- After i writes the policy is what these make of it.
 use Rattle.std.proofs.Common.{◌≡◌, take}
-use Rattle.policy.proofs.history.tell_each.Given as goal
+use Rattle.policy.proofs.history.tell_all.Given as goal
 use Rattle.policy.specs.Histories.{after_all}
 
 abbrev pub invariant-loop-write : goal.invariant-loop-write

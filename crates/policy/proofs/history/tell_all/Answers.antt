@@ -1,7 +1,7 @@
 -- When all writes are told, the policy is what they make of it.
 use Rattle.std.proofs.Common.{arith}
 use Rattle.policy.proofs.Telling.{closed_for_good}
-use Rattle.policy.proofs.history.tell_each.Goals as goal
+use Rattle.policy.proofs.history.tell_all.Goals as goal
 use Rattle.std.proofs.lemmas.Grind.{common_steps}
 
 pub returns : goal.returns
