@@ -27,7 +27,7 @@ impl<M: Memory> GuardedMemory<M> {
         ensures word { value_in result ≡ cond (is_ok result) (reached self.now.picture.words root address) None }
     {
         let index = translate(self.framed.memory(), root, address, access)?;
-        Ok(self.framed.memory().read(index).unwrap_or(0))
+        Ok(self.framed.memory().word(index))
     }
 
     // Replaces the word that a store reaches from a root, or says why it reaches none and changes nothing.

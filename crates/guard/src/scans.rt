@@ -45,7 +45,7 @@ fn entry_of<M: Memory>(memory: &M, table: u64, index: u64) -> Entry
     requires index { index < 512 }
     ensures { result.0 ≡ entry_at (M.means.words memory.now) table index }
 {
-    Entry(memory.read(FRAME_WORDS * table + index).unwrap_or(0))
+    Entry(memory.word(FRAME_WORDS * table + index))
 }
 
 // Whether no entry of a table is one of those that are looked for.

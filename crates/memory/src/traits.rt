@@ -1,6 +1,6 @@
 // What every kind of memory does.
 
-ghost use Rattle.std.specs.Prelude.{◌≡◌, ◌*◌, ◌≤◌, length, nat_lt, slice_set};
+ghost use Rattle.std.specs.Prelude.{◌≡◌, ◌*◌, ◌≤◌, length, nat_lt, slice_index, slice_set};
 ghost use Rattle.memory.specs.Memories.{Lawful, Meaning, word_at};
 
 // A frame is 4,096 bytes.
@@ -23,6 +23,13 @@ pub trait Memory {
     // The word at the index, or nothing where there is none.
     fn read(&self, index: u64) -> Option<u64>
         ensures { result ≡ word_at (means.words self.now) index };
+
+    // The word at the index, or zero where there is none.
+    fn word(&self, index: u64) -> u64
+        ensures { result ≡ slice_index (means.words self.now) index }
+    {
+        self.read(index).unwrap_or(0)
+    }
 
     // Replaces the word at the index and says yes, or says no where there is none: a plain bool, as a set's `insert`
     // answers, for no value stands beside it.

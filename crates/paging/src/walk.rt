@@ -36,7 +36,7 @@ fn read_entry<M: Memory>(
     ensures { let word = entry_at (M.means.words memory.now) table (part_at level parts) in result ≡ or_fault (present word) (record { entry = record { 0 = word }; level = level; table = table }) Lack.Absent level table }
 {
     let at = FRAME_WORDS * table + u64::from(parts.index(level));
-    let entry = Entry(memory.read(at).unwrap_or(0));
+    let entry = Entry(memory.word(at));
     if !entry.is_present() {
         return Err(WalkFault {
             lack: Lack::Absent,
