@@ -9,7 +9,7 @@
 use Rattle.std.specs.Prelude.{◌≡◌, ℕ, Bool, ◌&&◌, ◌||◌, ◌==◌, ◌⊎◌, IsTrue, List, [], ◌++◌, codes, drop, length, take, Option, is_some}
 use Rattle.std.specs.Option.{option_and_then}
 use Rattle.std.specs.Str.{bytes_eq}
-use Rattle.journal.specs.Kinds.{level_of}
+use Rattle.frames.specs.Kinds.{level_of}
 use Rattle.text.specs.Lines.{word_at}
 use Rattle.text.specs.Numbers.{number_of}
 

@@ -6,8 +6,8 @@
 --   refusals_at                   the numbers of accesses to an address
 --   Figures                       that the definitions give these values
 use Rattle.std.specs.Prelude.{◌≡◌, ℕ, true, false, List, [], ◌∷◌, map, Option, Some}
-use Rattle.journal.specs.Pictures.{frames_needed}
-use Rattle.journal.specs.Questions.{first_no}
+use Rattle.frames.specs.Regions.{frames_needed}
+use Rattle.frames.specs.Questions.{first_no}
 use Rattle.journal.specs.Records.{encode}
 use Rattle.journal.specs.Records as record_of
 use Rattle.paging.specs.Addresses.{parts_of}

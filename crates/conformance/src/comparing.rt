@@ -3,7 +3,7 @@
 ghost use Rattle.std.specs.Prelude.{◌≡◌, ◌↔◌, IsTrue};
 ghost use Rattle.conformance.specs.Comparing.{Expected, agrees, is_level, is_place};
 
-use journal::kinds::Level;
+use frames::kinds::Level;
 use text::lines::{is_word, word};
 use text::numbers::decimal;
 

@@ -5,8 +5,8 @@ ghost use Rattle.journal.specs.Records.{change_of, encode};
 ghost use Rattle.policy.specs.Policies.{permitted};
 ghost use Rattle.conformance.specs.Figures.{Figures, after_write, marked};
 
+use frames::regions::frames_needed;
 use journal::records::{Record, Stretch};
-use journal::regions::frames_needed;
 use memory::kinds::Words;
 use paging::addresses::split;
 use paging::faults::Access;

@@ -1,28 +1,29 @@
 -- What an accepted guard call is: a record that follows, fits and has room, and leaves sound what was sound.
 use Rattle.std.specs.Prelude.{⊤}
 use Rattle.std.proofs.Common.{◌≡◌, ℕ, ◌+◌, ◌*◌, ◌<◌, ◌≤◌, Bool, true, false, not, ◌||◌, ◌==◌, cond, nat_le, nat_lt, inl, inr, ⊎_elim, List, [], ◌∷◌, length, slice_get, Option, Some, None, is_none, refl, sym, subst, ap, ◌∙◌, arith}
-use Rattle.std.proofs.lemmas.Bool.{cases_eq, false≢true}
 use Rattle.std.proofs.Common.{set as put, slice_index}
+use Rattle.std.proofs.lemmas.Bool.{cases_eq, false≢true}
 use Rattle.std.proofs.lemmas.Bool.Decides.{nat_tests}
 use Rattle.std.proofs.lemmas.List.{length-set}
 use Rattle.std.proofs.lemmas.Option.{same_Some, slice_get_within}
 use Rattle.std.specs.Option.{option_map}
+use Rattle.frames.specs.Figures.{figure_questions}
+use Rattle.frames.specs.Kinds.{level_number, level_of, can_be_taken, is_code, is_plain, is_table, keeps_words}
+use Rattle.frames.specs.Regions.{ends_inside, frames_needed, is_live}
+use Rattle.frames.specs.Questions.{Question, first_no}
+use Rattle.frames.specs.declared.kinds.FrameKind.{FrameKind}
+use Rattle.frames.specs.declared.kinds.FrameKind.TheVariants as kind
+use Rattle.frames.specs.declared.kinds.Level.{Level}
+use Rattle.frames.specs.declared.kinds.Level.TheVariants.{One, Two, Three, Four}
+use Rattle.frames.specs.declared.regions.RegionState.{RegionState}
+use Rattle.frames.specs.declared.regions.RegionState.TheVariants as region
 use Rattle.journal.proofs.Inverses.{of_level}
 use Rattle.journal.proofs.Packing.{length_packed}
 use Rattle.journal.proofs.Staying.{length_put}
 use Rattle.journal.specs.Bytes.{are_bytes, words_for}
-use Rattle.journal.specs.Figures.{figure_questions}
-use Rattle.journal.specs.Kinds.{level_number, level_of}
-use Rattle.journal.specs.Pictures.{Picture, apply, can_be_taken, ends_inside, filled, follows, frames_needed, is_code, is_live, is_plain, is_table, let_go, region_of, with_words, write_into, keeps_words}
-use Rattle.journal.specs.Questions.{Question, first_no}
+use Rattle.journal.specs.Pictures.{Picture, apply, filled, follows, let_go, region_of, with_words, write_into}
 use Rattle.journal.specs.Records.{Change, encode, fits, declared, retired, taken, written, released, accepted, unaccepted}
 use Rattle.journal.specs.Records as change
-use Rattle.journal.specs.declared.kinds.FrameKind.{FrameKind}
-use Rattle.journal.specs.declared.kinds.FrameKind.TheVariants as kind
-use Rattle.journal.specs.declared.kinds.Level.{Level}
-use Rattle.journal.specs.declared.kinds.Level.TheVariants.{One, Two, Three, Four}
-use Rattle.journal.specs.declared.regions.RegionState.{RegionState}
-use Rattle.journal.specs.declared.regions.RegionState.TheVariants as region
 use Rattle.paging.specs.Entries.{frame_of, no_execute, present, writable}
 use Rattle.policy.specs.Policies.{Lawful, Meaning, permitted}
 use Rattle.policy.specs.Spans.{is_span}

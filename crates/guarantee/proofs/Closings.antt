@@ -5,15 +5,17 @@ use Rattle.std.proofs.lemmas.Bool.Decides.{nat_tests}
 use Rattle.std.proofs.lemmas.Option.{slice_get_within}
 use Rattle.std.specs.List.{list_all}
 use Rattle.memory.specs.ByteOrder.{bytes_of}
+use Rattle.frames.specs.Regions.{ends_inside, frames_needed, never_taken}
+use Rattle.frames.specs.Kinds.{is_plain}
+use Rattle.frames.specs.declared.kinds.FrameKind.TheVariants as kind
+use Rattle.frames.specs.declared.regions.RegionState.{RegionState}
+use Rattle.frames.specs.declared.regions.RegionState.TheVariants as region
 use Rattle.journal.proofs.Lying.{lie}
 use Rattle.journal.proofs.Staying.{get_set_other}
 use Rattle.journal.specs.Bytes.{are_bytes, byte_in}
-use Rattle.journal.specs.Pictures.{Picture, apply, ends_inside, follows, frames_needed, is_plain, let_go, never_taken, region_of, write_into}
+use Rattle.journal.specs.Pictures.{Picture, apply, follows, let_go, region_of, write_into}
 use Rattle.journal.specs.Records.{Change, encode, declared, retired, taken, written, released, accepted, unaccepted}
 use Rattle.journal.specs.Records as change
-use Rattle.journal.specs.declared.kinds.FrameKind.TheVariants as kind
-use Rattle.journal.specs.declared.regions.RegionState.{RegionState}
-use Rattle.journal.specs.declared.regions.RegionState.TheVariants as region
 use Rattle.policy.specs.Policies.{Lawful, Meaning, permitted}
 use Rattle.guard.specs.Calls.{Request, declare, retire, take, write, release, accept, unaccept, load_register, load_root, load, store, fetch, drain}
 use Rattle.guard.specs.Calls as request

@@ -1,8 +1,9 @@
 -- Code frames hold the words that they held when they were accepted.
 use Rattle.std.proofs.Common.{◌≡◌, ℕ, true, ◌⊎◌, inl, inr, ⊎_elim, List, [], ◌∷◌, ◌++◌, slice_get, Some, refl, sym, subst, ap, ◌∙◌}
-use Rattle.journal.specs.Pictures.{Picture, apply, is_code}
+use Rattle.frames.specs.Kinds.{is_code}
+use Rattle.frames.specs.declared.kinds.FrameKind.TheVariants as kind
+use Rattle.journal.specs.Pictures.{Picture, apply}
 use Rattle.journal.specs.Records.{accepted, encode}
-use Rattle.journal.specs.declared.kinds.FrameKind.TheVariants as kind
 use Rattle.paging.specs.Walks.{page_of}
 use Rattle.policy.specs.Policies.{Lawful, Meaning}
 use Rattle.guard.specs.Calls.{Request, accept}

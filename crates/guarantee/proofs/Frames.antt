@@ -2,12 +2,13 @@
 use Rattle.std.proofs.Common.{◌≡◌, ℕ, ◌+◌, ◌-◌, ◌<◌, ◌≤◌, Bool, true, false, not, ◌&&◌, nat_le, nat_lt, ◌==◌, ⊎_elim, List, slice_get, Option, Some, None, refl, sym, ap, ◌∙◌, arith}
 use Rattle.std.proofs.lemmas.Bool.{and_parts, cases_Bool, false≢true}
 use Rattle.std.proofs.lemmas.Bool.Decides.{nat_tests}
+use Rattle.frames.specs.Kinds.{can_be_taken, is_code, is_plain}
+use Rattle.frames.specs.declared.kinds.FrameKind.{FrameKind}
+use Rattle.frames.specs.declared.kinds.FrameKind.TheVariants as kind
+use Rattle.frames.specs.declared.kinds.Level.{Level}
+use Rattle.frames.specs.declared.kinds.Level.TheVariants.{One}
 use Rattle.journal.proofs.Fillings.{one_not_free}
-use Rattle.journal.specs.Pictures.{Picture, can_be_taken, free_frames, is_code, is_plain}
-use Rattle.journal.specs.declared.kinds.FrameKind.{FrameKind}
-use Rattle.journal.specs.declared.kinds.FrameKind.TheVariants as kind
-use Rattle.journal.specs.declared.kinds.Level.{Level}
-use Rattle.journal.specs.declared.kinds.Level.TheVariants.{One}
+use Rattle.journal.specs.Pictures.{Picture, free_frames}
 use Rattle.paging.specs.Entries.{entry_at, frame_of}
 use Rattle.guard.specs.Scans.{NoneAnywhere}
 use Rattle.guard.specs.declared.scans.Sought.TheVariants.{Executable, Present, Writable}

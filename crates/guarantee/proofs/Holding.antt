@@ -6,15 +6,16 @@ use Rattle.std.proofs.lemmas.Bool.Decides.{nat_tests}
 use Rattle.std.proofs.lemmas.List.{length-replicate}
 use Rattle.std.proofs.lemmas.Option.{same_Some, slice_get_within}
 use Rattle.memory.specs.Memories as memory
+use Rattle.frames.specs.Figures.{figure_questions}
+use Rattle.frames.specs.Kinds.{is_code, is_table, keeps_words}
+use Rattle.frames.specs.Questions.{first_no}
+use Rattle.frames.specs.declared.figures.LogFigures.{LogFigures}
+use Rattle.frames.specs.declared.kinds.FrameKind.{FrameKind}
+use Rattle.frames.specs.declared.kinds.FrameKind.TheVariants as kind
 use Rattle.journal.proofs.Fillings.{length_filled}
 use Rattle.journal.proofs.Staying.{none_live}
-use Rattle.journal.specs.Figures.{figure_questions}
-use Rattle.journal.specs.Pictures.{filled, is_code, is_table, new_picture, with_words, keeps_words}
+use Rattle.journal.specs.Pictures.{filled, new_picture, with_words}
 use Rattle.journal.specs.Playing.{start}
-use Rattle.journal.specs.Questions.{first_no}
-use Rattle.journal.specs.declared.figures.LogFigures.{LogFigures}
-use Rattle.journal.specs.declared.kinds.FrameKind.{FrameKind}
-use Rattle.journal.specs.declared.kinds.FrameKind.TheVariants as kind
 use Rattle.policy.specs.Policies.{Lawful, Meaning}
 use Rattle.guard.specs.Guarding.{held_words}
 use Rattle.guard.specs.States.{State, good, new_guarded, new_state}

@@ -3,16 +3,18 @@ use Rattle.std.proofs.Common.{◌≡◌, ℕ, ◌+◌, ◌-◌, ◌*◌, ◌<◌
 use Rattle.std.proofs.lemmas.Bool.{cases_eq, false≢true}
 use Rattle.std.proofs.lemmas.List.{length-set}
 use Rattle.std.proofs.lemmas.Option.{same_Some, slice_get_within}
+use Rattle.frames.specs.Kinds.{can_be_taken, is_code, is_plain, is_table}
+use Rattle.frames.specs.Regions.{frames_needed}
+use Rattle.frames.specs.declared.kinds.FrameKind.{FrameKind}
+use Rattle.frames.specs.declared.kinds.FrameKind.TheVariants as kind
+use Rattle.frames.specs.declared.kinds.Level.{Level}
+use Rattle.frames.specs.declared.kinds.Level.TheVariants.{One, Four}
+use Rattle.frames.specs.declared.regions.RegionState.{RegionState}
+use Rattle.frames.specs.declared.regions.RegionState.TheVariants as region
 use Rattle.journal.proofs.Fillings.{length_filled}
 use Rattle.journal.proofs.Staying.{first_frame, length_put, live_state, region_size, set_found}
-use Rattle.journal.specs.Pictures.{Picture, apply, can_be_taken, filled, frames_needed, is_code, is_plain, is_table, put_bytes, region_of, with_words, let_go}
+use Rattle.journal.specs.Pictures.{Picture, apply, filled, put_bytes, region_of, with_words, let_go}
 use Rattle.journal.specs.Records.{declared, retired, taken, accepted, unaccepted}
-use Rattle.journal.specs.declared.kinds.FrameKind.{FrameKind}
-use Rattle.journal.specs.declared.kinds.FrameKind.TheVariants as kind
-use Rattle.journal.specs.declared.kinds.Level.{Level}
-use Rattle.journal.specs.declared.kinds.Level.TheVariants.{One, Four}
-use Rattle.journal.specs.declared.regions.RegionState.{RegionState}
-use Rattle.journal.specs.declared.regions.RegionState.TheVariants as region
 use Rattle.paging.specs.Entries.{entry_at, present}
 use Rattle.guard.specs.Scans.{NoneAnywhere, scanned}
 use Rattle.guard.specs.declared.scans.Sought.TheVariants.{Executable, Present, Writable}

@@ -5,28 +5,30 @@ use Rattle.std.specs.List.{list_all}
 use Rattle.std.proofs.lemmas.Bool.{false≢true}
 use Rattle.std.proofs.lemmas.Bool.Decides.{nat_tests}
 use Rattle.std.proofs.lemmas.Grind.{same_number_lists}
+use Rattle.std.proofs.lemmas.Grind.{flat_map-append}
 use Rattle.std.proofs.lemmas.List.Sums.{fold-append}
 use Rattle.std.proofs.lemmas.List.Folds.{list_all-append}
-use Rattle.std.proofs.lemmas.Grind.{flat_map-append}
 use Rattle.std.proofs.lemmas.List.FromFn.{get_or-map-range_with_len, length-map-range_with_len, map-range_with_len_more}
 use Rattle.std.proofs.lemmas.List.{drop_all, length-set}
+use Rattle.frames.specs.Figures.{figure_questions}
+use Rattle.frames.specs.Regions.{frames_needed}
+use Rattle.frames.specs.Kinds.{keeps_words}
+use Rattle.frames.specs.Questions.{Question, first_no}
+use Rattle.frames.specs.declared.figures.LogFigures.{LogFigures}
+use Rattle.frames.specs.declared.kinds.FrameKind.{FrameKind}
+use Rattle.frames.specs.declared.kinds.FrameKind.TheVariants as kind
+use Rattle.frames.specs.declared.regions.RegionState.{RegionState}
+use Rattle.frames.specs.declared.regions.RegionState.TheVariants as region
 use Rattle.journal.proofs.Fillings.{length_filled}
 use Rattle.journal.proofs.Staying.{length_put}
 use Rattle.journal.proofs.Inverses.{empty_ends}
 use Rattle.journal.proofs.Playings.{records_none}
 use Rattle.journal.proofs.Joining.{inverse_of_all}
-use Rattle.journal.specs.Figures.{figure_questions}
-use Rattle.journal.specs.Pictures.{Picture, apply, follows, frames_needed, let_go, region_of, with_words, write_into, keeps_words}
+use Rattle.journal.specs.Pictures.{Picture, apply, follows, let_go, region_of, with_words, write_into}
 use Rattle.journal.specs.Playing.{apply_all, carried, encode_all, ending, outcome_after, outcome_from, outcome_of, picture_from, played, stopped, player_questions, records, start}
-use Rattle.journal.specs.Questions.{Question, first_no}
 use Rattle.journal.specs.Readings.{reading, ends}
 use Rattle.journal.specs.Records.{Change, encode, fits, declared, retired, taken, written, released, accepted, unaccepted}
 use Rattle.journal.specs.Records as change
-use Rattle.journal.specs.declared.figures.LogFigures.{LogFigures}
-use Rattle.journal.specs.declared.kinds.FrameKind.{FrameKind}
-use Rattle.journal.specs.declared.kinds.FrameKind.TheVariants as kind
-use Rattle.journal.specs.declared.regions.RegionState.{RegionState}
-use Rattle.journal.specs.declared.regions.RegionState.TheVariants as region
 use Rattle.paging.specs.Questions.{place_reached}
 use Rattle.policy.specs.Policies.{Lawful, Meaning}
 use Rattle.guard.proofs.Laying.{length_put_words, put_out, words_lie}

@@ -2,12 +2,13 @@
 -- its log, its regions and its code.
 use Rattle.std.proofs.Common.{◌≡◌, ℕ, ◌+◌, ◌*◌, ◌<◌, ◌≤◌, true, false, ⊎_elim, List, length, slice_get, Option, Some, None, sym, subst, ap, ◌∙◌}
 use Rattle.std.proofs.lemmas.Bool.{false≢true}
-use Rattle.journal.specs.Pictures.{Picture, frames_needed, region_of, with_words}
-use Rattle.journal.specs.declared.kinds.FrameKind.{FrameKind}
-use Rattle.journal.specs.declared.kinds.FrameKind.TheVariants as kind
-use Rattle.journal.specs.declared.kinds.Level.{Level}
-use Rattle.journal.specs.declared.kinds.Level.TheVariants.{One, Two, Three, Four}
-use Rattle.journal.specs.declared.regions.RegionState.TheVariants.{Live}
+use Rattle.frames.specs.Regions.{frames_needed}
+use Rattle.frames.specs.declared.kinds.FrameKind.{FrameKind}
+use Rattle.frames.specs.declared.kinds.FrameKind.TheVariants as kind
+use Rattle.frames.specs.declared.kinds.Level.{Level}
+use Rattle.frames.specs.declared.kinds.Level.TheVariants.{One, Two, Three, Four}
+use Rattle.frames.specs.declared.regions.RegionState.TheVariants.{Live}
+use Rattle.journal.specs.Pictures.{Picture, region_of, with_words}
 use Rattle.paging.specs.Entries.{entry_at, frame_of, no_execute, present, writable}
 use Rattle.guard.specs.Scans.{scanned}
 use Rattle.guarantee.proofs.Places.{Outside, SameFrame, inside_or_outside, scan_same}

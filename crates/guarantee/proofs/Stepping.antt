@@ -3,14 +3,15 @@ use Rattle.std.proofs.Common.{◌≡◌, ℕ, ◌+◌, ◌*◌, ◌≤◌, Bool,
 use Rattle.std.proofs.lemmas.Bool.{false≢true}
 use Rattle.std.proofs.lemmas.List.{length-set}
 use Rattle.std.proofs.lemmas.Option.{same_Some}
+use Rattle.frames.specs.Figures.{figure_questions}
+use Rattle.frames.specs.Kinds.{is_code, is_table}
+use Rattle.frames.specs.Questions.{first_no}
+use Rattle.frames.specs.declared.kinds.FrameKind.{FrameKind}
+use Rattle.frames.specs.declared.kinds.FrameKind.TheVariants as kind
+use Rattle.frames.specs.declared.kinds.Level.TheVariants.{One, Two, Three, Four}
 use Rattle.journal.specs.Bytes.{are_bytes}
-use Rattle.journal.specs.Figures.{figure_questions}
-use Rattle.journal.specs.Pictures.{Picture, apply, is_code, is_table, with_words}
-use Rattle.journal.specs.Questions.{first_no}
+use Rattle.journal.specs.Pictures.{Picture, apply, with_words}
 use Rattle.journal.specs.Records.{Change, encode}
-use Rattle.journal.specs.declared.kinds.FrameKind.{FrameKind}
-use Rattle.journal.specs.declared.kinds.FrameKind.TheVariants as kind
-use Rattle.journal.specs.declared.kinds.Level.TheVariants.{One, Two, Three, Four}
 use Rattle.paging.specs.Entries.{frame_of}
 use Rattle.paging.specs.Questions.{access_questions, place_reached}
 use Rattle.paging.specs.Walks.{page_of}

@@ -2,14 +2,14 @@
 use Rattle.std.proofs.Common.{◌≡◌, ℕ, Bool, true, false, [], slice_get, Option, Some, None, is_none, refl, sym, subst, ap, ◌∙◌}
 use Rattle.std.proofs.lemmas.Bool.{false≢true}
 use Rattle.std.specs.Option.{option_map}
-use Rattle.journal.specs.Kinds.{level_of}
-use Rattle.journal.specs.declared.kinds.Level.{Level}
 use Rattle.journal.specs.Bytes.{are_bytes}
 use Rattle.journal.specs.Pictures.{with_words}
 use Rattle.journal.specs.Records.{Change, declared, retired, taken, written, released, accepted, unaccepted}
 use Rattle.journal.specs.Records as change
 use Rattle.std.proofs.lemmas.Option.{same_Some}
-use Rattle.journal.specs.declared.kinds.FrameKind.TheVariants as kind
+use Rattle.frames.specs.Kinds.{level_of}
+use Rattle.frames.specs.declared.kinds.Level.{Level}
+use Rattle.frames.specs.declared.kinds.FrameKind.TheVariants as kind
 use Rattle.paging.specs.Questions.{access_questions}
 use Rattle.paging.specs.Walks.{page_of}
 use Rattle.paging.specs.declared.faults.Access.TheVariants as access

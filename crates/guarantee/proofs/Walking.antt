@@ -1,9 +1,9 @@
 -- Where the walk leads in a machine that is sound.
 use Rattle.std.proofs.Common.{◌≡◌, ℕ, ◌<◌, Bool, true, ◌&&◌, List, slice_get, Option, Some, refl, sym, ap, ◌∙◌, arith}
+use Rattle.frames.specs.declared.kinds.FrameKind.TheVariants as kind
+use Rattle.frames.specs.declared.kinds.Level.{Level}
+use Rattle.frames.specs.declared.kinds.Level.TheVariants.{One, Two, Three, Four}
 use Rattle.journal.specs.Pictures.{Picture}
-use Rattle.journal.specs.declared.kinds.FrameKind.TheVariants as kind
-use Rattle.journal.specs.declared.kinds.Level.{Level}
-use Rattle.journal.specs.declared.kinds.Level.TheVariants.{One, Two, Three, Four}
 use Rattle.paging.specs.Addresses.{index_at}
 use Rattle.paging.specs.Entries.{entry_at, present}
 use Rattle.paging.specs.Walks.{Leads, Translates, all_executable, all_present, all_writable, permits, entry_on, on_all, page_of, table_at}

@@ -16,13 +16,14 @@
 --   Guaranteed       that they hold of every run
 use Rattle.std.specs.Prelude.{◌≡◌, ℕ, ◌+◌, ◌*◌, ◌<◌, ◌≤◌, Bool, true, false, not, ◌&&◌, List, [], ◌∷◌, ◌++◌, length, flat_map, Some, ◌==◌}
 use Rattle.std.specs.List.{list_all}
+use Rattle.frames.specs.Kinds.{keeps_words}
+use Rattle.frames.specs.declared.figures.LogFigures.{LogFigures}
+use Rattle.frames.specs.declared.kinds.FrameKind.{FrameKind}
+use Rattle.frames.specs.declared.kinds.FrameKind.TheVariants as kind
+use Rattle.frames.specs.declared.regions.RegionState.TheVariants.{Live}
 use Rattle.journal.specs.Bytes.{are_bytes, byte_in}
-use Rattle.journal.specs.Pictures.{region_of, keeps_words}
+use Rattle.journal.specs.Pictures.{region_of}
 use Rattle.journal.specs.Playing.{picture_from, played, playing, start}
-use Rattle.journal.specs.declared.figures.LogFigures.{LogFigures}
-use Rattle.journal.specs.declared.kinds.FrameKind.{FrameKind}
-use Rattle.journal.specs.declared.kinds.FrameKind.TheVariants as kind
-use Rattle.journal.specs.declared.regions.RegionState.TheVariants.{Live}
 use Rattle.paging.specs.Walks.{Translates, page_of}
 use Rattle.paging.specs.declared.faults.Access.TheVariants.{Store, Fetch}
 use Rattle.policy.specs.Policies.{Meaning}

@@ -6,19 +6,19 @@ use Rattle.std.proofs.lemmas.Bool.Decides.{nat_tests}
 use Rattle.std.proofs.lemmas.Option.{same_Some, slice_get_within}
 use Rattle.std.specs.Prelude.{IsTrue, ◌==◌}
 use Rattle.journal.proofs.Inverses.{of_level}
-use Rattle.journal.specs.Kinds.{level_number, level_of}
-use Rattle.journal.specs.declared.kinds.FrameKind.TheVariants as kind
-use Rattle.journal.specs.declared.kinds.Level.TheVariants.{One, Two, Three, Four}
 use Rattle.std.proofs.lemmas.List.FromFn.{get_or-map-range_with_len, length-map-range_with_len}
 use Rattle.memory.specs.ByteOrder.{bytes_of}
+use Rattle.frames.specs.Kinds.{level_number, level_of}
+use Rattle.frames.specs.declared.kinds.FrameKind.TheVariants as kind
+use Rattle.frames.specs.declared.kinds.Level.TheVariants.{One, Two, Three, Four}
+use Rattle.frames.specs.declared.kinds.FrameKind.{FrameKind}
+use Rattle.frames.specs.declared.kinds.Level.{Level}
 use Rattle.scanner.specs.Rule.{bytes_of_words, passing}
 use Rattle.scanner.specs.States.{Fed, seen}
 use Rattle.scanner.specs.declared.scan.State.{State}
 use Rattle.scanner.specs.declared.scan.State.TheVariants.{Nothing}
 use Rattle.guard.specs.Scans.{EntryByEntry, NoneAnywhere, no_entry, clear_frames, clear_table, each_below, frame_words, is_table_of, left_to_scan, scanned, wanted}
 use Rattle.guard.specs.declared.scans.Sought.{Sought}
-use Rattle.journal.specs.declared.kinds.FrameKind.{FrameKind}
-use Rattle.journal.specs.declared.kinds.Level.{Level}
 use Rattle.paging.specs.Entries.{entry_at}
 
 -- One more number passes,

@@ -6,14 +6,15 @@
 --   entry_questions          how the order of a set ends
 --   questions                the order of each call
 use Rattle.std.specs.Prelude.{ℕ, ◌+◌, Bool, true, false, cond, not, ◌&&◌, ◌||◌, ◌==◌, List, [], ◌∷◌, length, nat_le, nat_lt, Some, None, Option, is_some, slice_get}
+use Rattle.frames.specs.Kinds.{level_number, level_of, is_code, is_plain, is_table}
+use Rattle.frames.specs.Regions.{ends_inside, frames_needed, is_live, never_taken}
+use Rattle.frames.specs.Questions.{Question}
+use Rattle.frames.specs.declared.kinds.FrameKind.{FrameKind}
+use Rattle.frames.specs.declared.kinds.FrameKind.TheVariants as kind
+use Rattle.frames.specs.declared.kinds.Level.{Level}
+use Rattle.frames.specs.declared.kinds.Level.TheVariants.{One, Four}
 use Rattle.journal.specs.Bytes.{words_for}
-use Rattle.journal.specs.Kinds.{level_number, level_of}
-use Rattle.journal.specs.Pictures.{ends_inside, frames_needed, free_frames, is_code, is_live, is_plain, is_table, never_taken, region_of}
-use Rattle.journal.specs.Questions.{Question}
-use Rattle.journal.specs.declared.kinds.FrameKind.{FrameKind}
-use Rattle.journal.specs.declared.kinds.FrameKind.TheVariants as kind
-use Rattle.journal.specs.declared.kinds.Level.{Level}
-use Rattle.journal.specs.declared.kinds.Level.TheVariants.{One, Four}
+use Rattle.journal.specs.Pictures.{free_frames, region_of}
 use Rattle.paging.specs.Entries.{frame_of, large, no_execute, present, writable}
 use Rattle.paging.specs.Questions.{access_questions}
 use Rattle.paging.specs.declared.faults.Access.TheVariants as access

@@ -11,14 +11,14 @@
 --   scanned         whether the scanner passes a frame
 --   left_to_scan    whether what a scan has seen passes with what is left
 use Rattle.std.specs.Prelude.{◌≡◌, ℕ, zero, suc, ◌+◌, ◌*◌, ◌<◌, Bool, true, false, not, ◌&&◌, ◌||◌, ◌==◌, List, ◌++◌, drop, length, nat_le, nat_lt, Option, Some, ◌↔◌, IsTrue, slice_get}
+use Rattle.frames.specs.Kinds.{level_number}
+use Rattle.frames.specs.declared.kinds.FrameKind.{FrameKind}
+use Rattle.frames.specs.declared.kinds.FrameKind.TheVariants as kind
+use Rattle.frames.specs.declared.kinds.Level.{Level}
 use Rattle.scanner.specs.Rule.{bytes_of_words, passing}
 use Rattle.scanner.specs.States.{seen}
 use Rattle.scanner.specs.declared.scan.State.{State}
-use Rattle.journal.specs.Kinds.{level_number}
 use Rattle.journal.specs.Pictures.{Picture}
-use Rattle.journal.specs.declared.kinds.FrameKind.{FrameKind}
-use Rattle.journal.specs.declared.kinds.FrameKind.TheVariants as kind
-use Rattle.journal.specs.declared.kinds.Level.{Level}
 use Rattle.paging.specs.Entries.{entry_at, frame_of, no_execute, present, writable}
 use Rattle.guard.specs.Guarding.{words_from}
 use Rattle.guard.specs.declared.scans.Sought.{Sought}

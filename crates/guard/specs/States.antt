@@ -5,10 +5,10 @@
 --   new_guarded    what the guard of a new machine keeps
 --   new_state      a new machine
 use Rattle.std.specs.Prelude.{ℕ, Bool, cond, None, Option, is_none}
-use Rattle.journal.specs.Figures.{figure_questions}
 use Rattle.journal.specs.Pictures.{new_picture, with_words}
-use Rattle.journal.specs.Questions.{first_no}
 use Rattle.memory.specs.Memories as memory
+use Rattle.frames.specs.Figures.{figure_questions}
+use Rattle.frames.specs.Questions.{first_no}
 use Rattle.guard.specs.Guarding.{Guarded}
 use Rattle.guard.specs.Registers.{new_registers}
 use Rattle.guard.specs.declared.registers.Registers.{Registers}

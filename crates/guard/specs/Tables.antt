@@ -4,8 +4,8 @@
 --   Frames         the words, the kinds, and what stands beside the words
 --   over_words, over_kinds   the same with other words, or with other kinds
 use Rattle.std.specs.Prelude.{ℕ, List, map}
-use Rattle.journal.specs.declared.kinds.FrameKind.{FrameKind}
 use Rattle.memory.specs.Memories.{Beside}
+use Rattle.frames.specs.declared.kinds.FrameKind.{FrameKind}
 use Rattle.guard.specs.declared.table.FrameTable.{FrameTable}
 
 -- The kind in each record.

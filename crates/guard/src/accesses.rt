@@ -1,9 +1,8 @@
 // Loads, stores and fetches through the page tables.
 
 ghost use Rattle.std.specs.Prelude.{◌≡◌, cond, is_ok, None};
-ghost use Rattle.journal.specs.Figures.{refusal};
+ghost use Rattle.frames.specs.Questions.{refusal, first_no};
 ghost use Rattle.journal.specs.Pictures.{with_words};
-ghost use Rattle.journal.specs.Questions.{first_no};
 ghost use Rattle.paging.specs.Questions.{access_questions, fault_number, translated};
 ghost use Rattle.paging.specs.declared.faults.Access.TheVariants.{Store};
 ghost use Rattle.guard.specs.Guarding.{with_picture};

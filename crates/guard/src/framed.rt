@@ -1,12 +1,12 @@
 // A memory and its frame table as one: each word is written and each kind changed here.
 
 ghost use Rattle.std.specs.Prelude.{◌≡◌, ◌≤◌, ◌<◌, ◌+◌, ◌^◌, length, replicate, slice_get, slice_set};
+ghost use Rattle.frames.specs.declared.kinds.FrameKind.TheVariants.{Plain};
 ghost use Rattle.journal.specs.Pictures.{filled};
-ghost use Rattle.journal.specs.declared.kinds.FrameKind.TheVariants.{Plain};
 ghost use Rattle.guard.specs.Tables.{over_kinds, over_words};
 
 use crate::table::FrameTable;
-use journal::kinds::FrameKind;
+use frames::kinds::FrameKind;
 use memory::traits::Memory;
 use std::marker::Model;
 

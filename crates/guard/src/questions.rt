@@ -1,15 +1,16 @@
 // Questions that calls ask of what the guard keeps.
 
 ghost use Rattle.std.specs.Prelude.{◌≡◌, ◌≤◌, ◌<◌, ◌+◌, ◌^◌, Some};
-ghost use Rattle.journal.specs.Pictures.{can_be_taken, free_frames};
-ghost use Rattle.journal.specs.declared.kinds.FrameKind.TheVariants.{Table};
+ghost use Rattle.frames.specs.Kinds.{can_be_taken};
+ghost use Rattle.frames.specs.declared.kinds.FrameKind.TheVariants.{Table};
+ghost use Rattle.journal.specs.Pictures.{free_frames};
 ghost use Rattle.paging.specs.Entries.{frame_of};
 ghost use Rattle.guard.specs.Orders.{executes_code, is_one_lower, kind_of, unexecutable, unnamed_above, unwritable, writes_plain};
 ghost use Rattle.guard.specs.Scans.{scanned};
 
 use crate::guarded::GuardedMemory;
 use crate::scans::{Sought, passes};
-use journal::kinds::{FrameKind, Level};
+use frames::kinds::{FrameKind, Level};
 use memory::traits::Memory;
 use paging::entries::Entry;
 

@@ -5,7 +5,7 @@ ghost use Rattle.paging.specs.Entries.{entry_at};
 ghost use Rattle.guard.specs.Scans.{EntryByEntry, clear_table, is_table_of, left_to_scan, no_entry, scanned, wanted};
 
 use crate::guarded::GuardedMemory;
-use journal::kinds::{FrameKind, Level};
+use frames::kinds::{FrameKind, Level};
 use memory::traits::{FRAME_WORDS, Memory};
 use paging::entries::Entry;
 use scanner::Scanner;

@@ -1,10 +1,10 @@
 // What is known of each frame.
 
 ghost use Rattle.std.specs.Prelude.{◌≡◌, length, replicate, slice_get, slice_set, Some};
-ghost use Rattle.journal.specs.declared.kinds.FrameKind.TheVariants.{Plain};
+ghost use Rattle.frames.specs.declared.kinds.FrameKind.TheVariants.{Plain};
 ghost use Rattle.guard.specs.Tables.{kinds_of};
 
-use journal::kinds::FrameKind;
+use frames::kinds::FrameKind;
 
 // What is known of one frame.
 #[derive(Clone, Copy, Debug)]

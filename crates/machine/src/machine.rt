@@ -9,15 +9,15 @@ ghost use Rattle.guard.specs.Steps.{Step, piece, with_piece};
 ghost use Rattle.guarantee.specs.Guarantee.{Guaranteed, bytes_of_write};
 ghost use Rattle.journal.specs.Bytes.{are_bytes};
 
+use frames::figures::LogFigures;
+use frames::kinds::{FrameKind, Level};
+use frames::regions::{RegionState, frames_needed};
 use guard::calls::{Answer, Call};
 use guard::guarded::GuardedMemory;
 use guard::packed::Packed;
 use guard::refusals::Refusal;
 use guard::registers::{Register, Registers};
-use journal::figures::LogFigures;
-use journal::kinds::{FrameKind, Level};
 use journal::records::Record;
-use journal::regions::{RegionState, frames_needed};
 use memory::traits::{FRAME_WORDS, Memory};
 use paging::entries::Entry;
 use paging::faults::{Access, AccessFault};

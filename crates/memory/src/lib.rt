@@ -2,6 +2,7 @@
 
 #![tactic(auto)]
 
+pub mod bytes;
 pub mod items;
 pub mod kinds;
 pub mod list;

@@ -1,9 +1,9 @@
 -- The walk's answers are the translations of the address, and its faults say where and why it ended.
 use Rattle.std.proofs.Common.{◌≡◌, ℕ, ◌<◌, ◌≤◌, Bool, true, false, not, ◌⊎◌, inl, inr, List, Ok, Err, Result, lit<, lit≤, refl, sym, ap, ◌∙◌, subst, arith}
 use Rattle.std.proofs.lemmas.Bool.{cases_Bool}
-use Rattle.journal.specs.Kinds.{level_number}
-use Rattle.journal.specs.declared.kinds.Level.{Level}
-use Rattle.journal.specs.declared.kinds.Level.TheVariants.{One, Two, Three, Four}
+use Rattle.frames.specs.Kinds.{level_number}
+use Rattle.frames.specs.declared.kinds.Level.{Level}
+use Rattle.frames.specs.declared.kinds.Level.TheVariants.{One, Two, Three, Four}
 use Rattle.paging.specs.Entries.{no_execute, present, writable}
 use Rattle.paging.specs.Walks.{AnswersTranslate, EndsAt, FaultsSay, Leads, Translates, all_present, ends_at, entry_on, first_failing, lack_of, on_all, page_of, passes, permits, table_at, walked}
 use Rattle.paging.specs.declared.faults.Access.{Access}

@@ -7,8 +7,8 @@
 --   repeated             what bits 48 to 63 add where they repeat bit 47
 --   canonical, aligned   what is asked of an address before the walk
 use Rattle.std.specs.Prelude.{ℕ, ◌+◌, ◌-◌, ◌*◌, ◌/◌, ◌%◌, ◌^◌, Bool, cond, ◌||◌, ◌==◌}
-use Rattle.journal.specs.declared.kinds.Level.{Level}
-use Rattle.journal.specs.declared.kinds.Level.TheVariants.{One, Two, Three, Four}
+use Rattle.frames.specs.declared.kinds.Level.{Level}
+use Rattle.frames.specs.declared.kinds.Level.TheVariants.{One, Two, Three, Four}
 use Rattle.paging.specs.declared.parts.Split.{Split}
 
 -- The index of an address at a level, nine bits for each.

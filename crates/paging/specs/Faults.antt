@@ -4,7 +4,7 @@
 --   access_text, lack_text, walk_text, stopped_text, fault_text   by the type
 use Rattle.std.specs.Prelude.{ℕ, true, List, ◌++◌, codes, decimal}
 use Rattle.std.specs.Fmt.{digits}
-use Rattle.journal.specs.Kinds.{level_number}
+use Rattle.frames.specs.Kinds.{level_number}
 use Rattle.paging.specs.declared.faults.Access.{Access}
 use Rattle.paging.specs.declared.faults.Access.TheVariants.{Load, Store, Fetch}
 use Rattle.paging.specs.declared.faults.AccessFault.{AccessFault}

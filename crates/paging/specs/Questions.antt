@@ -9,7 +9,7 @@
 --   walked_from                 the same, from the root on if there is one
 --   translated                  the same, after what is asked of the address
 use Rattle.std.specs.Prelude.{ℕ, ◌+◌, ◌*◌, ◌/◌, Bool, true, cond, List, [], ◌∷◌, Some, None, Ok, Err, Option, Result, is_some}
-use Rattle.journal.specs.Questions.{Question}
+use Rattle.frames.specs.Questions.{Question}
 use Rattle.paging.specs.Addresses.{aligned, canonical, offset_of}
 use Rattle.paging.specs.Walks.{all_executable, all_present, all_writable, page_of, walked}
 use Rattle.paging.specs.declared.faults.Access.{Access}

@@ -15,9 +15,9 @@
 --   EndsAt                  what a fault says of where and why a walk ended
 --   FaultsSay               that a walk's faults say so, and no others do
 use Rattle.std.specs.Prelude.{◌≡◌, ◌≢◌, ℕ, ◌<◌, Bool, true, false, cond, not, ◌&&◌, List, Some, None, Ok, Err, Option, Result}
-use Rattle.journal.specs.Kinds.{level_number}
-use Rattle.journal.specs.declared.kinds.Level.{Level}
-use Rattle.journal.specs.declared.kinds.Level.TheVariants.{One, Two, Three, Four}
+use Rattle.frames.specs.Kinds.{level_number}
+use Rattle.frames.specs.declared.kinds.Level.{Level}
+use Rattle.frames.specs.declared.kinds.Level.TheVariants.{One, Two, Three, Four}
 use Rattle.paging.specs.Addresses.{index_at}
 use Rattle.paging.specs.Entries.{entry_at, frame_of, no_execute, present, writable}
 use Rattle.paging.specs.declared.faults.Access.{Access}

@@ -5,7 +5,7 @@ ghost use Rattle.paging.specs.Faults.{access_text, fault_text, lack_text, stoppe
 ghost use Rattle.paging.specs.Questions.{fault_number, lack_number, stopped_in};
 ghost use Rattle.paging.specs.declared.faults.AccessFault.TheVariants.{Walk};
 
-use journal::kinds::Level;
+use frames::kinds::Level;
 use std::error::Error;
 use std::fmt;
 

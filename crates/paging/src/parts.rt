@@ -3,7 +3,7 @@
 ghost use Rattle.std.specs.Prelude.{◌≡◌};
 ghost use Rattle.paging.specs.Addresses.{part_at};
 
-use journal::kinds::Level;
+use frames::kinds::Level;
 
 // The index of an address at each level, and its offset in the frame, in bytes.
 #[derive(Clone, Copy, Debug, PartialEq, Eq)]

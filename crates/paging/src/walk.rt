@@ -1,8 +1,7 @@
 // The walk from an address to its word.
 
 ghost use Rattle.std.specs.Prelude.{◌≡◌, ◌<◌, ◌^◌, IfOk, IfSome};
-ghost use Rattle.journal.specs.Figures.{refusal};
-ghost use Rattle.journal.specs.Questions.{first_no};
+ghost use Rattle.frames.specs.Questions.{refusal, first_no};
 ghost use Rattle.paging.specs.Addresses.{part_at};
 ghost use Rattle.paging.specs.Entries.{entry_at, present};
 ghost use Rattle.paging.specs.Questions.{access_questions, fault_number, translated, place_reached};
@@ -12,7 +11,7 @@ use crate::addresses::{is_aligned, is_canonical, split};
 use crate::entries::Entry;
 use crate::faults::{Access, AccessFault, Lack, Stopped, WalkFault};
 use crate::parts::Split;
-use journal::kinds::Level;
+use frames::kinds::Level;
 use memory::traits::{FRAME_WORDS, Memory};
 
 // An entry that is present, and where it was read.

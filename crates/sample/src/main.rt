@@ -3,9 +3,9 @@
 
 #![tactic(auto)]
 
+use frames::figures::LogFigures;
+use frames::kinds::FrameKind;
 use guard::calls::{Answer, Call};
-use journal::figures::LogFigures;
-use journal::kinds::FrameKind;
 use journal::player::play;
 use machine::run::{Task, run};
 use memory::kinds::{Bytes, Words};

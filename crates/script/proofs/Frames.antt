@@ -2,12 +2,12 @@
 use Rattle.std.proofs.Common.{◌≡◌, ℕ, ◌+◌, ◌*◌, ◌<◌, Bool, ◌&&◌, List, ◌++◌, length, drop, get_or, codes, Some, sym, ap, ◌∙◌, arith}
 use Rattle.std.specs.List.{list_any, slice_get}
 use Rattle.std.specs.Fmt.{decimal}
-use Rattle.journal.specs.declared.kinds.FrameKind.{FrameKind}
 use Rattle.std.proofs.lemmas.List.{drop-drop}
 use Rattle.std.proofs.lemmas.Option.{slice_get-get_or}
-use Rattle.journal.specs.declared.kinds.FrameKind.TheVariants as kind
+use Rattle.frames.specs.declared.kinds.FrameKind.{FrameKind}
+use Rattle.frames.specs.declared.kinds.FrameKind.TheVariants as kind
+use Rattle.frames.specs.Kinds.{keeps_words}
 use Rattle.script.specs.Listings.{below}
-use Rattle.journal.specs.Pictures.{keeps_words}
 use Rattle.script.specs.Pictures.{frame_line, frame_words, is_listed, nonzero, words_text}
 
 -- the words behind the next frame

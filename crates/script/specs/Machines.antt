@@ -10,14 +10,14 @@
 --
 -- Made of: `frames_shown`, `refused_text`.
 use Rattle.std.specs.Prelude.{ℕ, ◌/◌, true, cond, List, [], ◌++◌, ◌==◌, length, replicate, Some, None, codes, decimal, Option}
+use Rattle.frames.specs.Kinds.{level_number}
+use Rattle.frames.specs.Questions.{first_no}
+use Rattle.frames.specs.declared.figures.LogFigures.{LogFigures}
 use Rattle.guard.specs.Calls.{Request}
 use Rattle.guard.specs.Orders.{questions}
 use Rattle.guard.specs.States.{State, new_state}
 use Rattle.guard.specs.Steps.{counted, effect, is_accepted, piece, read, stopped}
 use Rattle.guard.specs.declared.calls.Answer.TheVariants.{Done}
-use Rattle.journal.specs.Kinds.{level_number}
-use Rattle.journal.specs.Questions.{first_no}
-use Rattle.journal.specs.declared.figures.LogFigures.{LogFigures}
 use Rattle.paging.specs.declared.faults.Stopped.{Stopped}
 use Rattle.paging.specs.declared.parts.Split.{Split}
 use Rattle.policy.specs.Kinds.{append_only_close, append_only_openness, free_close, free_openness, kind_means, write_once_close, write_once_openness}

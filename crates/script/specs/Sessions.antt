@@ -18,11 +18,13 @@
 -- `with_basis`, `with_word`, `with_machine`, `with_call`, `with_kept`.
 use Rattle.std.specs.Prelude.{◌≡◌, ℕ, ◌+◌, ◌*◌, Bool, true, false, cond, ◌&&◌, IfOk, List, [], ◌++◌, length, replicate, is_ok, is_some, Some, None, codes, decimal, Option, Result, nat_lt, slice_set, vec_items}
 use Rattle.std.specs.Option.{option_and_then, option_map}
+use Rattle.frames.specs.declared.figures.LogFigures.{LogFigures}
+use Rattle.frames.specs.declared.kinds.FrameKind.{FrameKind}
+use Rattle.frames.specs.declared.kinds.FrameKind.TheVariants as kind
+use Rattle.frames.specs.Figures.{figure_number, figure_questions}
+use Rattle.frames.specs.Questions.{first_no}
 use Rattle.journal.specs.Pictures.{Picture}
 use Rattle.journal.specs.Playing.{Outcome, fault_says, picture_from, played, playing, start}
-use Rattle.journal.specs.declared.figures.LogFigures.{LogFigures}
-use Rattle.journal.specs.declared.kinds.FrameKind.{FrameKind}
-use Rattle.journal.specs.declared.kinds.FrameKind.TheVariants as kind
 use Rattle.scanner.specs.Rule.{passing}
 use Rattle.text.specs.declared.outcomes.Unread.{Unread}
 use Rattle.script.specs.declared.session.Answer.{Answer}
@@ -33,8 +35,6 @@ use Rattle.script.specs.declared.session.Stage.TheVariants as stage
 use Rattle.guard.specs.Calls.{Request, drain, count_in, number_in, stopped_in_answer, word_in}
 use Rattle.guard.specs.States.{State}
 use Rattle.guard.specs.Steps.{is_answer_to}
-use Rattle.journal.specs.Figures.{figure_number, figure_questions}
-use Rattle.journal.specs.Questions.{first_no}
 use Rattle.paging.specs.Addresses.{parts_of}
 use Rattle.paging.specs.declared.faults.Stopped.{Stopped}
 use Rattle.paging.specs.declared.parts.Split.{Split}

@@ -1,17 +1,17 @@
 // The machine that a script makes, and what is printed of it.
 ghost use Rattle.std.specs.Prelude.{◌≡◌, ◌≤◌, true, [], vec_len, Some};
 ghost use Rattle.std.specs.Option.{option_map};
+ghost use Rattle.frames.specs.Figures.{figure_number};
 ghost use Rattle.guard.specs.Calls.{count_in, drain, number_in, request_of, stopped_in_answer, word_in};
 ghost use Rattle.guard.specs.Steps.{is_answer_to};
 ghost use Rattle.script.specs.Machines.{call_after, call_count, call_number, call_stop, call_text, call_word, call_words, copied_text, frames_shown, log_figures, made_text, new_machine, new_policies, parts_text};
 ghost use Rattle.script.specs.Supplies.{supplied_words};
-ghost use Rattle.journal.specs.Figures.{figure_number};
 
 use crate::commands::HexWords;
 use crate::supplied::Supplied;
+use frames::figures::BadFigures;
+use frames::figures::LogFigures;
 use guard::calls::{Answer, Call};
-use journal::faults::BadFigures;
-use journal::figures::LogFigures;
 use machine::machine::Machine;
 use memory::traits::Memory;
 use paging::parts::Split;

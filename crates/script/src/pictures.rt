@@ -1,12 +1,12 @@
 // What playing a journal made, as it is printed.
 ghost use Rattle.std.specs.Prelude.{◌≡◌, ◌&&◌, drop, take, vec_items, Some};
 ghost use Rattle.std.specs.List.{list_any};
+ghost use Rattle.frames.specs.Kinds.{keeps_words};
 ghost use Rattle.journal.specs.Playing.{fault_says};
-ghost use Rattle.journal.specs.Pictures.{keeps_words};
 ghost use Rattle.script.specs.Pictures.{frames_text, kinds_text, nonzero, outcome_text, picture_text, played_text, words_text};
 
+use frames::kinds::FrameKind;
 use journal::faults::PlayFault;
-use journal::kinds::FrameKind;
 use memory::traits::FRAME_WORDS;
 use std::fmt;
 use text::printing::Hexadecimal;

@@ -1,9 +1,9 @@
 // Kinds of frames, and levels of tables.
 
-ghost use Rattle.std.specs.Prelude.{◌≡◌};
-ghost use Rattle.journal.specs.Kinds.{level_number, level_of, number_of};
+ghost use Rattle.std.specs.Prelude.{◌≡◌, Some};
+ghost use Rattle.frames.specs.Kinds.{keeps_words, level_number, level_of, number_of};
 
-// The level of a page table: an entry of a table of level 1 names a frame, and of any other a table one level lower.
+/// The level of a page table: an entry of a table of level 1 names a frame, and of any other a table one level lower.
 #[derive(Clone, Copy, Debug, PartialEq, Eq)]
 pub enum Level {
     One,
@@ -13,7 +13,7 @@ pub enum Level {
 }
 
 impl Level {
-    // The level of that number, or nothing where it is none of 1 to 4.
+    /// The level of that number, or nothing where it is none of 1 to 4.
     pub fn new(number: u64) -> Option<Level>
         ensures { result ≡ level_of number }
     {
@@ -27,7 +27,7 @@ impl Level {
     }
 }
 
-// The number of a level.
+/// The number of a level: 1 to 4.
 impl From<Level> for u8 {
     ghost from_gives = { λ level number. number ≡ level_number level };
 
@@ -41,24 +41,36 @@ impl From<Level> for u8 {
     }
 }
 
-// What a frame is used for.
+/// What a frame is used for.
 #[derive(Clone, Copy, Debug, PartialEq, Eq)]
 pub enum FrameKind {
-    // The kernel's own: the only kind that a store can reach.
+    /// The kernel's own: the only kind that a store can reach.
     Plain,
-    // A page table of that level.
+    /// A page table of that level.
     Table(Level),
-    // A part of a region.
+    /// A part of a region.
     Region,
-    // Code that the scanner passed: the only kind that a fetch can reach.
+    /// Code that the scanner passed: the only kind that a fetch can reach.
     Code,
-    // A part of the log, which holds the journal.
+    /// A part of the log, which holds the journal.
     Log,
-    // A part of a region that was released, whose words are kept.
+    /// A part of a region that was released, whose words are kept.
     Reserve,
 }
 
-// The number of a kind.
+impl FrameKind {
+    /// Whether a journal gives the words of such a frame: of a table, and of one that is or was a region's.
+    pub fn keeps_words(self) -> bool
+        ensures { result ≡ keeps_words (Some self) }
+    {
+        match self {
+            FrameKind::Table(_) | FrameKind::Region | FrameKind::Reserve => true,
+            FrameKind::Plain | FrameKind::Code | FrameKind::Log => false,
+        }
+    }
+}
+
+/// The number of a kind: 0 to 8, that of a table the number of its level.
 impl From<FrameKind> for u8 {
     ghost from_gives = { λ kind number. number ≡ number_of kind };
 
