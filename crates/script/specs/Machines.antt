@@ -8,8 +8,10 @@
 --   call_text, copied_text              what is printed of the first four, and of the words
 --   made_text, parts_text               and of making a machine, and of the parts of an address
 --
--- Made of: `frames_shown`, `refused_text`.
-use Rattle.std.specs.Prelude.{ℕ, ◌/◌, true, cond, List, [], ◌++◌, ◌==◌, length, replicate, Some, None, codes, decimal, Option}
+-- Made of: `frames_shown`, `memory_of`, `refused_text`.
+use Rattle.std.specs.Prelude.{⊤, ℕ, ◌/◌, true, cond, List, [], ◌++◌, ◌==◌, length, replicate, Some, None, codes, decimal, Option}
+use Rattle.memory.specs.Memories as memory
+use Rattle.memory.specs.Memories.{Beside}
 use Rattle.frames.specs.Kinds.{level_number}
 use Rattle.frames.specs.Questions.{first_no}
 use Rattle.frames.specs.declared.figures.LogFigures.{LogFigures}
@@ -49,9 +51,13 @@ log_figures n first count = record { frames = n; first = first; count = count }
 abbrev pub frames_shown : List ℕ → ℕ
 frames_shown ws = length ws / 512
 
--- a new machine over words
-unfoldable pub new_machine : List ℕ → ℕ → ℕ → State Policies
-new_machine ws first count = new_state ws (frames_shown ws) first count new_policies
+-- the meaning of a memory of these words, and of what stands beside them
+abbrev pub memory_of : List ℕ → Beside → memory.Meaning ⊤
+memory_of ws beside = record { words = λ _. ws; size = λ _. frames_shown ws; beside = λ _. beside }
+
+-- a new machine over such a memory
+unfoldable pub new_machine : List ℕ → Beside → ℕ → ℕ → State Policies
+new_machine ws beside first count = new_state (memory_of ws beside) tt first count new_policies
 
 -- the number of the first question that has a no
 unfoldable pub call_number : Request → State Policies → Option ℕ

@@ -1,6 +1,6 @@
 -- What a command does to a session, and what answers it. A session is seen as what a script has set up, if it has set up anything.
 --
---   Basis           what a session stands on: the words of a supplied memory, or a machine and its figures
+--   Basis           what a session stands on: a supplied memory, or a machine and its figures
 --   Held, held      this, and the words of a journal that are kept
 --   Told, told      what an answer says
 --   answer_text     an answer as it is printed
@@ -18,6 +18,7 @@
 -- `with_basis`, `with_word`, `with_machine`, `with_call`, `with_kept`.
 use Rattle.std.specs.Prelude.{◌≡◌, ℕ, ◌+◌, ◌*◌, Bool, true, false, cond, ◌&&◌, IfOk, List, [], ◌++◌, length, replicate, is_ok, is_some, Some, None, codes, decimal, Option, Result, nat_lt, slice_set, vec_items}
 use Rattle.std.specs.Option.{option_and_then, option_map}
+use Rattle.memory.specs.Memories.{Beside}
 use Rattle.frames.specs.declared.figures.LogFigures.{LogFigures}
 use Rattle.frames.specs.declared.kinds.FrameKind.{FrameKind}
 use Rattle.frames.specs.declared.kinds.FrameKind.TheVariants as kind
@@ -27,6 +28,7 @@ use Rattle.journal.specs.Pictures.{Picture}
 use Rattle.journal.specs.Playing.{Outcome, fault_says, picture_from, played, playing, start}
 use Rattle.scanner.specs.Rule.{passing}
 use Rattle.text.specs.declared.outcomes.Unread.{Unread}
+use Rattle.script.specs.declared.commands.ListKind.{ListKind}
 use Rattle.script.specs.declared.session.Answer.{Answer}
 use Rattle.script.specs.declared.session.Answer.TheVariants as answer
 use Rattle.script.specs.declared.session.Setup.{Setup}
@@ -43,11 +45,11 @@ use Rattle.script.specs.Machines.{Policies, call_after, call_count, call_number,
 use Rattle.text.specs.Outcomes.{Gives, wants_memory}
 use Rattle.script.specs.Listings.{listing}
 use Rattle.script.specs.Pictures.{outcome_text, picture_text, played_text}
-use Rattle.script.specs.Supplies.{frames_for, supplied_words}
+use Rattle.script.specs.Supplies.{frames_for, supplied_beside, supplied_words, zeros_beside}
 
--- the words of a memory that was supplied, or a machine over it with the figures on which it was made
+-- a memory that was supplied, by its words and what stands beside them, or a machine over it with the figures on which it was made
 pub data Basis : Type 0 where
-  supplied : List ℕ → Basis
+  supplied : List ℕ → Beside → Basis
   machined : LogFigures → State Policies → Basis
 
 -- what a session stands on, and the words of a journal that are kept
@@ -57,7 +59,7 @@ pub record Held : Type 0 where
 
 -- what a setup of the program holds
 abbrev pub basis_of : Stage → Basis
-basis_of (stage.Supplied list) = supplied (supplied_words list)
+basis_of (stage.Supplied list) = supplied (supplied_words list) (supplied_beside list)
 basis_of (stage.Machine made) = machined made.figures made.machine
 
 abbrev pub held : Setup → Held
@@ -65,7 +67,7 @@ held setup = record { basis = basis_of setup.stage; kept = vec_items setup.journ
 
 -- how many frames there are
 abbrev pub frames_of : Basis → ℕ
-frames_of (supplied ws) = frames_shown ws
+frames_of (supplied ws beside) = frames_shown ws
 frames_of (machined f s) = f.frames
 
 -- an answer as a value: so many frames or words, nothing to tell, the figures' question that has a no, what is told of a call (the number of its
@@ -112,17 +114,17 @@ answer_text (unplayed o) = outcome_text o
 
 -- `word` has its place in a supplied memory where its index is in the frame, and the frame is shown; over a machine it has none
 abbrev pub preset_in : Basis → ℕ → ℕ → Option Told
-preset_in (supplied ws) frame index = cond (nat_lt index 512 && nat_lt (512 * frame + index) (length ws)) (Some done) None
+preset_in (supplied ws beside) frame index = cond (nat_lt index 512 && nat_lt (512 * frame + index) (length ws)) (Some done) None
 preset_in (machined f s) frame index = None
 
 -- a machine is made over a supplied memory, and tells which of its figures' questions has a no
 abbrev pub make_in : Basis → ℕ → ℕ → Option Told
-make_in (supplied ws) first count = Some (making (first_no (figure_questions (frames_shown ws) first count)))
+make_in (supplied ws beside) first count = Some (making (first_no (figure_questions (frames_shown ws) first count)))
 make_in (machined f s) first count = None
 
 -- a call needs a machine
 abbrev pub call_in : Basis → Request → Option Told
-call_in (supplied ws) q = None
+call_in (supplied ws beside) q = None
 call_in (machined f s) q = Some (called (call_number q s) (call_stop q s) (call_word q s) (call_count q s) (call_words q s))
 
 -- the words that are kept; none where nothing was set up
@@ -141,7 +143,7 @@ play_answer f ws = playing_told (playing f ws (replicate (512 * f.frames) 0) (re
 
 -- words are played on the figures of the machine, where there is one
 abbrev pub play_log_in : Basis → List ℕ → Option Told
-play_log_in (supplied ws) kept = None
+play_log_in (supplied ws beside) kept = None
 play_log_in (machined f s) kept = Some (play_answer f kept)
 
 -- the answer to each command: most of them need something that was set up
@@ -157,9 +159,9 @@ answer_of m records = Some (listed (kept_in m))
 answer_of m play_log = option_and_then (λ h. play_log_in h.basis h.kept) m
 answer_of m (play first count) = option_map (λ h. play_answer (log_figures (frames_of h.basis) first count) h.kept) m
 
--- a new memory, zero throughout, with which no words are kept
-abbrev pub new_memory : ℕ → Held
-new_memory count = record { basis = supplied (replicate (512 * count) 0); kept = [] }
+-- a new memory over a list of that kind and length, zero throughout, with which no words are kept
+abbrev pub new_memory : ListKind → ℕ → Held
+new_memory list_kind size = record { basis = supplied (replicate (512 * frames_for list_kind size) 0) (zeros_beside list_kind size); kept = [] }
 
 -- with another basis
 abbrev pub with_basis : (Basis → Basis) → Held → Held
@@ -167,17 +169,17 @@ with_basis change h = record { basis = change h.basis; kept = h.kept }
 
 -- with one word of a supplied memory replaced
 abbrev pub with_word : ℕ → ℕ → Basis → Basis
-with_word place value (supplied ws) = supplied (slice_set ws place value)
+with_word place value (supplied ws beside) = supplied (slice_set ws place value) beside
 with_word place value (machined f s) = machined f s
 
 -- with a machine over the supplied memory
 abbrev pub with_machine : ℕ → ℕ → Basis → Basis
-with_machine first count (supplied ws) = machined (log_figures (frames_shown ws) first count) (new_machine ws first count)
+with_machine first count (supplied ws beside) = machined (log_figures (frames_shown ws) first count) (new_machine ws beside first count)
 with_machine first count (machined f s) = machined f s
 
 -- with the machine as it is after a call
 abbrev pub with_call : Request → Basis → Basis
-with_call q (supplied ws) = supplied ws
+with_call q (supplied ws beside) = supplied ws beside
 with_call q (machined f s) = machined f (call_after q s)
 
 -- with more words kept
@@ -186,7 +188,7 @@ with_kept ws h = record { basis = h.basis; kept = h.kept ++ ws }
 
 -- the words that a call copies out of what a session stands on
 abbrev pub copied_by : Request → Basis → List ℕ
-copied_by q (supplied ws) = []
+copied_by q (supplied ws beside) = []
 copied_by q (machined f s) = call_words q s
 
 -- after a call: the words that it copied out are kept, behind those that were kept
@@ -195,7 +197,7 @@ after_call q h = with_kept (copied_by q h.basis) (with_basis (with_call q) h)
 
 -- `memory`, `word`, `machine`, the calls and `journal` change what is held, and no other command does
 abbrev pub held_after : Option Held → Said → Option Held
-held_after m (memory kind size) = Some (new_memory (frames_for kind size))
+held_after m (memory kind size) = Some (new_memory kind size)
 held_after m (word frame index value) = option_map (with_basis (with_word (512 * frame + index) value)) m
 held_after m (machine first count) = option_map (with_basis (with_machine first count)) m
 held_after m (call q) = option_map (after_call q) m
@@ -213,7 +215,7 @@ is_drain other = false
 
 -- whether there is a machine
 abbrev pub is_machined : Basis → Bool
-is_machined (supplied ws) = false
+is_machined (supplied ws beside) = false
 is_machined (machined f s) = true
 
 -- and over what was set up, if anything was

@@ -5,12 +5,11 @@ ghost use Rattle.frames.specs.Figures.{figure_number};
 ghost use Rattle.guard.specs.Calls.{count_in, drain, number_in, request_of, stopped_in_answer, word_in};
 ghost use Rattle.guard.specs.Steps.{is_answer_to};
 ghost use Rattle.script.specs.Machines.{call_after, call_count, call_number, call_stop, call_text, call_word, call_words, copied_text, frames_shown, log_figures, made_text, new_machine, new_policies, parts_text};
-ghost use Rattle.script.specs.Supplies.{supplied_words};
+ghost use Rattle.script.specs.Supplies.{supplied_beside, supplied_words};
 
 use crate::commands::HexWords;
 use crate::supplied::Supplied;
-use frames::figures::BadFigures;
-use frames::figures::LogFigures;
+use frames::figures::{BadFigures, LogFigures};
 use guard::calls::{Answer, Call};
 use machine::machine::Machine;
 use memory::traits::Memory;
@@ -44,7 +43,7 @@ impl Made {
     // A machine over a memory, with so many log frames from a first one on.
     #[tactic(auto, unfolding(crate::specs::Machines::new_machine))]
     pub(crate) fn new(memory: Supplied, first: u64, count: u64) -> Made
-        ensures is { result.machine ≡ new_machine (supplied_words memory) first count }
+        ensures is { result.machine ≡ new_machine (supplied_words memory) (supplied_beside memory) first count }
         ensures figure { result.figures ≡ log_figures (frames_shown (supplied_words memory)) first count }
     {
         let figures = LogFigures {

@@ -43,16 +43,6 @@ impl fmt::Display for FrameWords<'_> {
     }
 }
 
-// Whether a frame of that kind is a table, of a region or a reserve frame.
-fn keeps_words(kind: FrameKind) -> bool
-    ensures { result ≡ keeps_words (Some kind) }
-{
-    matches!(
-        kind,
-        FrameKind::Table(_) | FrameKind::Region | FrameKind::Reserve
-    )
-}
-
 // Whether a word is not zero.
 fn any_nonzero(words: &[u64]) -> bool
     ensures { result ≡ list_any nonzero words.now }
@@ -64,7 +54,7 @@ fn any_nonzero(words: &[u64]) -> bool
 fn is_listed(kind: FrameKind, words: &[u64]) -> bool
     ensures { result ≡ (keeps_words (Some kind) && list_any nonzero words.now) }
 {
-    keeps_words(kind) && any_nonzero(words)
+    kind.keeps_words() && any_nonzero(words)
 }
 
 // The words of frames, and the kind of each.

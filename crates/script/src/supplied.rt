@@ -1,6 +1,6 @@
 // The memory that a script supplies. It owns its list, and shows it as the lent kinds show theirs.
 ghost use Rattle.std.specs.Prelude.{◌≡◌, ◌*◌, ◌/◌, min, length, replicate, nat_lt, slice_set, IfOk};
-ghost use Rattle.script.specs.Supplies.{supplied_words, supplied_size, frames_for, supplied_laws, AfterWrite, ZeroList};
+ghost use Rattle.script.specs.Supplies.{supplied_beside, supplied_words, supplied_size, supplied_means, frames_for, supplied_laws, zeros_beside, AfterWrite, ZeroList};
 
 use crate::commands::ListKind;
 use memory::items::Item;
@@ -30,6 +30,7 @@ impl Supplied {
         ensures list { IfOk result (ZeroList kind size) }
         ensures words { IfOk result (λ s. supplied_words s ≡ replicate (512 * frames_for kind size) 0) }
         ensures frames { IfOk result (λ s. supplied_size s ≡ frames_for kind size) }
+        ensures beside { IfOk result (λ s. supplied_beside s ≡ zeros_beside kind size) }
     {
         Ok(match kind {
             ListKind::Words => Supplied::Words(zeros(heap, size)?),
@@ -40,9 +41,7 @@ impl Supplied {
 
 // One call for each kind of list, and the same one: a box of either would have to be made and handed out.
 impl Memory for Supplied {
-    ghost words = { supplied_words };
-
-    ghost size = { supplied_size };
+    ghost means = { supplied_means };
 
     ghost laws = { supplied_laws };
 
@@ -64,6 +63,7 @@ impl Memory for Supplied {
         ensures same { supplied_size self.new ≡ supplied_size self.old }
         ensures done { result ≡ nat_lt index (length (supplied_words self.old)) }
         ensures after { supplied_words self.new ≡ slice_set (supplied_words self.old) index value }
+        ensures kept { supplied_beside self.new ≡ supplied_beside self.old }
         ensures list { AfterWrite self.old index value self.new }
     {
         match self {
