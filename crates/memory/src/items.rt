@@ -8,8 +8,8 @@ ghost use Rattle.memory.specs.Items.{sole, Shows};
 ghost use Rattle.memory.specs.Memories.{shown};
 ghost use Rattle.memory.specs.WordLaws.{word_facts};
 
-// An item of a list, where each word is N of them. Its ghost members stay single: clauses name `words` and `put` alone,
-// and only the two records of facts take all of them together.
+/// An item of a list, where each word is N of them. Its ghost members stay single: clauses name `words` and `put` alone,
+/// and only the two records of facts take all of them together.
 pub trait Item<const N: usize>: Copy {
     // The word that so many items make.
     ghost word_in: { List Self → ℕ };
@@ -29,15 +29,15 @@ pub trait Item<const N: usize>: Copy {
     // A list with a word put into it.
     ghost put: { List Self → ℕ → ℕ → List Self };
 
-    // The word that the items make.
+    /// The word that the items make.
     fn word(items: [Self; N]) -> u64
         ensures { result ≡ word_in items };
 
-    // The items of the word.
+    /// The items of the word.
     fn items(word: u64) -> [Self; N]
         ensures { result ≡ items_of word };
 
-    // The item that is nought.
+    /// The item that is nought.
     fn zero() -> Self
         ensures { result ≡ nought };
 
@@ -122,7 +122,7 @@ impl Item<8> for u8 {
     }
 }
 
-// The order of bytes: a word begins with its low byte.
+/// The order of bytes: a word begins with its low byte.
 pub fn byte_order_stands()
     ensures { ByteOrder }
 {}

@@ -8,21 +8,21 @@ use crate::items::Item;
 use crate::list;
 use crate::traits::Memory;
 
-// The memory that the whole frames of a lent list make. Clauses name its field: a model would show the list, but not
-// the loan, by which a lender learns what was written.
+/// The memory that the whole frames of a lent list make, 256 at the most. Clauses name its field: a model would show the
+/// list, but not the loan, by which a lender learns what was written.
 #[derive(Drop)]
 pub struct Lent<'a, T, const N: usize> {
     list: &'a mut [T],
 }
 
-// Over a list of words.
+/// Over a list of words.
 pub type Words<'a> = Lent<'a, u64, 1>;
 
-// Over a list of bytes, eight to a word.
+/// Over a list of bytes, eight to a word.
 pub type Bytes<'a> = Lent<'a, u8, 8>;
 
 impl<'a, T: Item<N>, const N: usize> Lent<'a, T, N> {
-    // Shows the lent list. By the name of the loan the lender learns what was written.
+    /// Shows the lent list. By the name of the loan the lender learns what was written.
     pub fn new(list: &'a mut [T]) -> Self
         ensures same { result.list.now ≡ list.old }
         ensures lender { result.list.ghost_name ≡ list.entry.ghost_name }
@@ -56,7 +56,8 @@ impl<T: Item<N>, const N: usize> Memory for Lent<'_, T, N> {
         ensures after { T.words self.new.list.now ≡ slice_set (T.words self.old.list.now) index value }
         ensures list { self.new.list.now ≡ written N T.put self.old.list.now index value }
         ensures rest { behind (512 * N) self.new.list.now ≡ behind (512 * N) self.old.list.now }
-        ensures kept { beside_list N T.numbers self.new.list.now (self.new.list.ghost_name ∷ []) ≡ beside_list N T.numbers self.old.list.now (self.old.list.ghost_name ∷ []) }
+        ensures kept { beside_list N T.numbers self.new.list.now (self.new.list.ghost_name ∷ [])
+            ≡ beside_list N T.numbers self.old.list.now (self.old.list.ghost_name ∷ []) }
         ensures lender { self.new.list.ghost_name ≡ self.old.list.ghost_name }
     {
         list::write(self.list, index, value)

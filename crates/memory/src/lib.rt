@@ -1,4 +1,4 @@
-// Memories: frames of 512 words of 64 bits, read and written word by word.
+//! Memories: frames of 512 words of 64 bits, read and written word by word.
 
 #![tactic(auto)]
 

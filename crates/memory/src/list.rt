@@ -6,7 +6,7 @@ ghost use Rattle.memory.specs.Memories.{behind, frames_in, word_at, written};
 use crate::items::Item;
 use crate::traits::{FRAME_WORDS, MOST_FRAMES};
 
-// How many whole frames the list shows.
+/// How many whole frames the list shows: 0 to 256.
 pub fn frames<T: Item<N>, const N: usize>(list: &[T]) -> u64
     ensures is { result ≡ frames_in (512 * N) list.now }
     ensures whole { length (T.words list.now) ≡ 512 * result }
@@ -46,11 +46,11 @@ fn put<T: Item<N>, const N: usize>(list: &mut [T], index: u64, value: u64)
     list[at..at + N].copy_from_slice(&T::items(value));
 }
 
-// The word at the index, or nothing where the list shows none. Of `then` with a closure in place of the `if` the proof
-// does not close.
+/// The word at the index, or nothing where the list shows none.
 pub fn read<T: Item<N>, const N: usize>(list: &[T], index: u64) -> Option<u64>
     ensures { result ≡ word_at (T.words list.now) index }
 {
+    // Of `then` with a closure in place of the `if` the proof does not close.
     if index < count(list) {
         Some(get(list, index))
     } else {
@@ -58,7 +58,7 @@ pub fn read<T: Item<N>, const N: usize>(list: &[T], index: u64) -> Option<u64>
     }
 }
 
-// Replaces the word at the index and says yes, or says no where the list shows none: a bool, as in the trait `Memory`.
+/// Replaces the word at the index and says yes, or says no where the list shows none: a bool, as in the trait `Memory`.
 pub fn write<T: Item<N>, const N: usize>(list: &mut [T], index: u64, value: u64) -> bool
     ensures list { list.new ≡ written N T.put list.old index value }
     ensures rest { behind (512 * N) list.new ≡ behind (512 * N) list.old }

@@ -1,10 +1,10 @@
 // Memories on examples: no frame, one frame, more frames than are shown, and the order of bytes.
 
 ghost use Rattle.std.specs.Prelude.{◌≡◌};
-ghost use Rattle.memory.specs.Memories.{written};
+ghost use Rattle.memory.specs.Memories.{behind, written};
 
 use crate::items::Item;
-use crate::kinds::{Bytes, Lent};
+use crate::kinds::{Bytes, Lent, Words};
 use crate::traits::Memory;
 use std::process::Abort;
 use std::test::Fail;
@@ -16,6 +16,21 @@ fn write_two<T: Item<N>, const N: usize>(list: &mut [T])
     let mut memory = Lent::new(list);
     let _ = memory.write(0, 5);
     let _ = memory.write(1, 6);
+}
+
+// What stands beside the words of any memory is kept.
+fn write_first<M: Memory>(memory: &mut M)
+    ensures kept { M.means.beside memory.new ≡ M.means.beside memory.old }
+{
+    let _ = memory.write(0, 5);
+}
+
+// A lender knows of a memory that was passed by reference that what lies behind its frames is as it was.
+fn lend(list: &mut [u64])
+    ensures { behind 512 list.new ≡ behind 512 list.old }
+{
+    let mut memory = Words::new(list);
+    write_first(&mut memory);
 }
 
 // The memory has words up to `last`, and none from `past` on.
@@ -100,6 +115,9 @@ fn low_byte_first(rt: HostRuntime) -> Result<(), Fail> {
 
 #[test]
 fn lent_list(rt: HostRuntime) -> Result<(), Fail> {
+    let mut list = vec![in rt.alloc(); 0u64; 513]?;
+    lend(list.as_mut_slice());
+    assert!(rt; list.as_slice()[0] == 5);
     let mut list = vec![in rt.alloc(); 0u64; 512]?;
     write_two(list.as_mut_slice());
     let slice = list.as_slice();
