@@ -40,6 +40,11 @@ abbrev pub is_region : Option FrameKind → Bool
 is_region (Some kind.Region) = true
 is_region other = false
 
+-- The level of the table that a frame is, if it is one.
+abbrev pub level_in : Option FrameKind → Option Level
+level_in (Some (kind.Table level)) = Some level
+level_in other = None
+
 -- The kind of a frame by what it was asked to be.
 pub plain_is : (o : Option FrameKind) → is_plain o ≡ true → o ≡ Some kind.Plain
 plain_is None e = absurd (false≢true e)
@@ -89,11 +94,7 @@ no_present p frame lower none own entries table index level under down is low he
     let same : frame_of (entry_at p.words table index) ≡ frame = sole frame _ after before in
     let named : (frame_of (entry_at p.words table index) == frame) ≡ true = grind (arith, nat_tests, same) in
     let level_of_it : Some (kind.Table under) ≡ Some (kind.Table lower) = sym ((entries table index level is low here).table under down) ∙ ap (slice_get p.kinds) same ∙ own in
-    false≢true (sym (none level (down ∙ ap which level_of_it) table index is low) ∙ both _ _ here named)
-  where
-    which : Option FrameKind → Option Level
-    which (Some (kind.Table level)) = Some level
-    which other = None
+    false≢true (sym (none level (down ∙ ap level_in level_of_it) table index is low) ∙ both _ _ here named)
 
 -- Nor does an entry name a frame so whose kind it could not name.
 pub above_by_kind : (p : Picture) (from n : ℕ) → Entries p → ((f : ℕ) (level : Level) → from ≤ f → f < from + n → slice_get p.kinds f ≡ Some (kind.Table level) → ⊥) → NotAbove p from n

@@ -1,10 +1,11 @@
 -- Events, one after the other.
-use Rattle.std.proofs.Common.{◌≡◌, Bool, true, false, cond, List, [], ◌∷◌, ◌++◌, is_none, refl, sym, subst, ap, ◌∙◌}
+use Rattle.std.proofs.Common.{◌≡◌, Bool, true, false, cond, List, [], ◌∷◌, ◌++◌, append-nil, is_none, refl, sym, subst, ap, ◌∙◌}
 use Rattle.std.proofs.lemmas.Bool.{false≢true}
+use Rattle.std.proofs.lemmas.Grind.{flat_map-append}
 use Rattle.policy.specs.Policies.{Lawful, Meaning}
 use Rattle.guard.specs.States.{State}
 use Rattle.guard.specs.Steps.{accepts, effect, is_accepted}
-use Rattle.guarantee.specs.Guarantee.{Event, Happens, Run}
+use Rattle.guarantee.specs.Guarantee.{Event, Happens, Run, pieces}
 use Rattle.guarantee.proofs.Accepting.{Kept}
 use Rattle.guarantee.proofs.Stepping.{effect_kept}
 
@@ -58,3 +59,7 @@ not_nil e es is = absurd (false≢true (ap is_nil is))
 pub run_on : {P : Type 0} (means : Meaning P) (front back : List Event) (s u t : State P) → Run means front s u → Run means back u t → Run means (front ++ back) s t
 run_on means [] back s u t first second = subst (λ x. Run means back x t) first second
 run_on means (e ∷ front) back s u t first second = (first.0, (first.1.0, run_on means front back first.0 u t first.1.1 second))
+
+-- The drained pieces of one event more.
+pub pieces_on : (events : List Event) (e : Event) → pieces (events ++ e ∷ []) ≡ pieces events ++ e.copied
+pieces_on events e = flat_map-append (λ d. d.copied) events (e ∷ []) ∙ ap (λ l. pieces events ++ l) (append-nil e.copied)

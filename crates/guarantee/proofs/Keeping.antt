@@ -1,5 +1,5 @@
 -- Each change of a picture leaves sound what was sound, where its questions had a yes.
-use Rattle.std.proofs.Common.{◌≡◌, ℕ, ◌+◌, ◌-◌, ◌*◌, ◌<◌, ◌≤◌, Bool, true, false, ◌⊎◌, inl, inr, ⊎_elim, List, length, set, slice_get, slice_index, Option, Some, None, refl, sym, subst, ap, ◌∙◌, arith}
+use Rattle.std.proofs.Common.{◌≡◌, ℕ, ◌+◌, ◌-◌, ◌*◌, ◌<◌, ◌≤◌, Bool, true, false, ◌⊎◌, inl, inr, ⊎_elim, List, length, set, slice_get, slice_index, Option, Some, refl, sym, subst, ap, ◌∙◌, arith}
 use Rattle.std.proofs.lemmas.Bool.{cases_eq, false≢true}
 use Rattle.std.proofs.lemmas.List.{length-set}
 use Rattle.std.proofs.lemmas.Option.{same_Some, slice_get_within}
@@ -18,7 +18,7 @@ use Rattle.journal.specs.Records.{declared, retired, taken, accepted, unaccepted
 use Rattle.paging.specs.Entries.{entry_at, present}
 use Rattle.guard.specs.Scans.{NoneAnywhere, scanned}
 use Rattle.guard.specs.declared.scans.Sought.TheVariants.{Executable, Present, Writable}
-use Rattle.guarantee.proofs.Frames.{is_log, is_region, above_by_kind, differ, executable_by_kind, no_executable, no_present, no_writable, sole, writable_by_kind}
+use Rattle.guarantee.proofs.Frames.{is_log, is_region, level_in, above_by_kind, differ, executable_by_kind, no_executable, no_present, no_writable, sole, writable_by_kind}
 use Rattle.guarantee.proofs.Places.{Outside, SameFrame, bytes_out, filled_in, filled_out, inside_or_outside, set_in, set_out, scan_same, zeroed_in, zeroed_out}
 use Rattle.guarantee.proofs.Sounds.{Entries, Names, Regions, Sound, Turned, Unused, below, rewritten, turning}
 
@@ -281,7 +281,7 @@ set_sound p root first_log logs table index entry level sound is under names = r
   entries = λ t i l here low shown. ⊎_elim
       (λ same.
       let its : t ≡ table = omega (arith, same, low, under) in
-      let level_of_it : l ≡ level = which (sym here ∙ ap (slice_get p.kinds) its ∙ is) in
+      let level_of_it : l ≡ level = same_Some _ _ (ap level_in (sym here ∙ ap (slice_get p.kinds) its ∙ is)) in
       let read : entry_at ws t i ≡ entry = ap (slice_index ws) same ∙ set_in p.words (512 * table + index) entry room in
       subst (λ w. Names p.kinds l w) (sym read) (subst (λ x. Names p.kinds x entry) (sym level_of_it) (names (ap present (sym read) ∙ shown))))
       (λ apart.
@@ -300,13 +300,6 @@ set_sound p root first_log logs table index entry level sound is under names = r
 
     room : 512 * table + index < length p.words
     room = let there : table < length p.kinds = slice_get_within p.kinds table _ is in omega (arith, there, under, sound.whole)
-
-    which : {l : Level} → Some (kind.Table l) ≡ Some (kind.Table level) → l ≡ level
-    which e = same_Some _ _ (ap level_in e)
-      where
-        level_in : Option FrameKind → Option Level
-        level_in (Some (kind.Table l)) = Some l
-        level_in other = None
 
     rewritten_code : (f : ℕ) → slice_get p.kinds f ≡ Some kind.Code → scanned ws f ≡ true
     rewritten_code f e = sym (scan_same ws p.words f (λ i low. set_out p.words (512 * table + index) entry (512 * f + i) (λ same.

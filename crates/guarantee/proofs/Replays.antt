@@ -42,7 +42,7 @@ use Rattle.guard.specs.declared.calls.Answer.{Answer}
 use Rattle.guarantee.specs.Guarantee.{Event, Happens, Replay, Run, figures_of, journal_of, pieces}
 use Rattle.guarantee.proofs.Accepting.{Agree, Enacts, Kept, Yes, all_yes}
 use Rattle.guarantee.proofs.Frames.{both, differ, is_log}
-use Rattle.guarantee.proofs.Happenings.{by_answer, event_kept}
+use Rattle.guarantee.proofs.Happenings.{by_answer, event_kept, pieces_on}
 use Rattle.guarantee.proofs.Places.{SameFrame, frame_same, inside_or_outside, words_same}
 use Rattle.guarantee.proofs.Stepping.{noting_out, store_out}
 use Rattle.guarantee.proofs.Viewing.{View, copied, recorded, stored_at, unaltered, view}
@@ -201,10 +201,6 @@ pub record Told {P : Type 0} (f : LogFigures) (events : List Event) (s : State P
   pub long : length ws ≡ length s.guarded.picture.words
   pub agree : Agree ws s.guarded.picture
   pub figures : figures_of s ≡ f
-
--- Drained pieces of one event more.
-pieces_on : (events : List Event) (e : Event) → pieces (events ++ e ∷ []) ≡ pieces events ++ e.copied
-pieces_on events e = flat_map-append (λ d. d.copied) events (e ∷ []) ∙ ap (λ l. pieces events ++ l) (append-nil e.copied)
 
 -- Where the journal of a run is the same after an event, and so is all else that is told, it is told as before.
 told_same : {P : Type 0} (f : LogFigures) (events : List Event) (e : Event) (s u : State P) → Told f events s → e.copied ++ held_words u.guarded ≡ held_words s.guarded → (vs : List ℕ) → u.guarded.picture ≡ with_words s.guarded.picture vs

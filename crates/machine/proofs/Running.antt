@@ -4,7 +4,6 @@ use Rattle.std.proofs.lemmas.Bool.Decides.{nat_tests}
 use Rattle.std.proofs.lemmas.List.FromFn.{length-map-range_with_len}
 use Rattle.std.proofs.Common.{get_or, set as put, take as take_items}
 use Rattle.std.proofs.lemmas.List.{drop-drop, drop_all, length-append, length-drop, length-take-le, take_all, take_more, length-map, map-append}
-use Rattle.std.proofs.lemmas.Grind.{flat_map-append}
 use borrow.Rule.Slice.PartMut.{mid_of, put_mid}
 use Rattle.std.proofs.Math.Seq.{drop-append_seam, take-append_seam}
 use Rattle.std.specs.Prelude.{slice_index}
@@ -20,7 +19,7 @@ use Rattle.guard.specs.declared.calls.Answer.TheVariants.{Done, Word, Drained, R
 use Rattle.guard.specs.declared.calls.Call.{Call}
 use Rattle.guard.specs.declared.calls.Call.TheVariants as call
 use Rattle.guarantee.proofs.Accepting.{all_yes}
-use Rattle.guarantee.proofs.Happenings.{run_on}
+use Rattle.guarantee.proofs.Happenings.{pieces_on, run_on}
 use Rattle.guarantee.specs.Guarantee.{Event, Happens, pieces}
 use Rattle.machine.specs.Runs.{OfTasks, RunOf, drained_in, event_of, overlaid, task_request}
 use Rattle.machine.specs.declared.run.Task.{Task}
@@ -139,13 +138,10 @@ run_more means ts t s u v answers now after archive held list drained more e so 
   filed = filed
       ∙ ap (λ n. take_items n held ++ with_piece e.copied (drop n held)) so.count
       ∙ filed_more archive held (pieces so.events) e.copied so.filed (subst (λ n. n ≤ length archive) so.count so.within)
-      ∙ ap (λ l. with_piece l archive) (sym (pieces_more so.events e));
-  count = count ∙ (let had = so.count in let long = length-append (pieces so.events) e.copied in let all : length (pieces (so.events ++ e ∷ [])) ≡ length (pieces so.events ++ e.copied) = ap length (pieces_more so.events e) in omega (arith, had, long, all));
+      ∙ ap (λ l. with_piece l archive) (sym (pieces_on so.events e));
+  count = count ∙ (let had = so.count in let long = length-append (pieces so.events) e.copied in let all : length (pieces (so.events ++ e ∷ [])) ≡ length (pieces so.events ++ e.copied) = ap length (pieces_on so.events e) in omega (arith, had, long, all));
   within = within;
 }
-  where
-    pieces_more : (es : List Event) (d : Event) → pieces (es ++ d ∷ []) ≡ pieces es ++ d.copied
-    pieces_more es d = flat_map-append (λ x. x.copied) es (d ∷ []) ∙ ap (λ l. pieces es ++ l) (append-nil d.copied)
 
 pub run_none : {P : Type 0} (means : Meaning P) (s : State P) (answers : List Answer) (archive : List ℕ) → RunOf means [] s s answers answers archive archive 0
 run_none means s answers archive = record {

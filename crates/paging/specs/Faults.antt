@@ -1,6 +1,5 @@
 -- What is shown of a fault: what happened, and what to do.
 --
---   hexadecimal   a number in hexadecimal digits
 --   access_text, lack_text, walk_text, stopped_text, fault_text   by the type
 use Rattle.std.specs.Prelude.{ℕ, true, List, ◌++◌, codes, decimal}
 use Rattle.std.specs.Fmt.{digits}
@@ -13,10 +12,6 @@ use Rattle.paging.specs.declared.faults.Lack.{Lack}
 use Rattle.paging.specs.declared.faults.Lack.TheVariants.{Absent, ReadOnly, NoExecute}
 use Rattle.paging.specs.declared.faults.Stopped.{Stopped}
 use Rattle.paging.specs.declared.faults.WalkFault.{WalkFault}
-
--- A number in upper-case hexadecimal digits, without leading zeros.
-abbrev pub hexadecimal : ℕ → List ℕ
-hexadecimal n = digits 16 true n
 
 -- The word for an access.
 abbrev pub access_text : Access → List ℕ
@@ -34,9 +29,9 @@ lack_text NoExecute = codes "the entry permits no fetch: set one with bit 63 cle
 abbrev pub walk_text : WalkFault → List ℕ
 walk_text fault = codes "level " ++ (decimal (level_number fault.level) ++ (codes ", table " ++ (decimal fault.table ++ (codes ": " ++ lack_text fault.lack))))
 
--- The same, with the access and the address.
+-- The same, with the access and the address, in upper-case hexadecimal digits.
 abbrev pub stopped_text : Stopped → List ℕ
-stopped_text stopped = codes "the " ++ (access_text stopped.access ++ (codes " at " ++ (hexadecimal stopped.address ++ (codes " ended at " ++ walk_text stopped.fault))))
+stopped_text stopped = codes "the " ++ (access_text stopped.access ++ (codes " at " ++ (digits 16 true stopped.address ++ (codes " ended at " ++ walk_text stopped.fault))))
 
 -- Why an access is refused.
 abbrev pub fault_text : AccessFault → List ℕ
