@@ -1,8 +1,8 @@
 -- A printed line beside the one that was expected. Another emulator does not tell at which level and in which table a walk ended, so that place may be
 -- left out of what is expected.
 --
---   is_level    whether a number is that of a level
---   is_place    whether a text is the place of a walk's fault
+--   names_level   whether a number is that of a level
+--   is_place      whether a text is the place of a walk's fault
 --   behind      what of a line stands behind one that is expected
 --   agrees      whether a printed line is the expected one, but for the place of a walk's fault
 --   Expected    the same in the subject's words
@@ -14,15 +14,15 @@ use Rattle.text.specs.Lines.{word_at}
 use Rattle.text.specs.Numbers.{number_of}
 
 -- A number is that of a level.
-abbrev pub is_level : Option ℕ → Bool
-is_level number = is_some (option_and_then level_of number)
+abbrev pub names_level : Option ℕ → Bool
+names_level number = is_some (option_and_then level_of number)
 
 -- The words `at level L in table T` and no other.
 abbrev pub is_place : List ℕ → Bool
 is_place text =
     bytes_eq (word_at text 0) (codes "at")
     && (bytes_eq (word_at text 1) (codes "level")
-    && (is_level (number_of 10 (word_at text 2))
+    && (names_level (number_of 10 (word_at text 2))
     && (bytes_eq (word_at text 3) (codes "in")
     && (bytes_eq (word_at text 4) (codes "table")
     && (is_some (number_of 10 (word_at text 5))

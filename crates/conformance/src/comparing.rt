@@ -1,15 +1,15 @@
 // A printed line beside the one that was expected.
 
 ghost use Rattle.std.specs.Prelude.{◌≡◌, ◌↔◌, IsTrue};
-ghost use Rattle.conformance.specs.Comparing.{Expected, agrees, is_level, is_place};
+ghost use Rattle.conformance.specs.Comparing.{Expected, agrees, names_level, is_place};
 
 use frames::kinds::Level;
 use text::lines::{is_word, word};
 use text::numbers::decimal;
 
 // Whether a number is that of a level.
-fn is_level(number: Option<u64>) -> bool
-    ensures { result ≡ is_level number }
+fn names_level(number: Option<u64>) -> bool
+    ensures { result ≡ names_level number }
 {
     number.and_then(Level::new).is_some()
 }
@@ -20,7 +20,7 @@ fn is_place(text: &[u8]) -> bool
 {
     is_word(text, 0, b"at")
         && is_word(text, 1, b"level")
-        && is_level(decimal(word(text, 2)))
+        && names_level(decimal(word(text, 2)))
         && is_word(text, 3, b"in")
         && is_word(text, 4, b"table")
         && decimal(word(text, 5)).is_some()
@@ -37,8 +37,8 @@ fn continues(expected: &[u8], printed: &[u8]) -> bool
     }
 }
 
-// Whether a printed line is the expected one, in which the place of a walk's fault may be left out. What such answers mean follows from the
-// other, of any two lines.
+/// Whether a printed line is the expected one, in which the place of a walk's fault may be left out. What such answers mean follows from the
+/// other, of any two lines.
 pub fn agrees(expected: &[u8], printed: &[u8]) -> bool
     ensures is { result ≡ agrees expected.now printed.now }
     ensures means { IsTrue result ↔ Expected expected.now printed.now }

@@ -18,13 +18,13 @@ use policy::traits::Policy;
 use policy::write_once::WriteOnce;
 use scanner::passes;
 
-// The addresses that are split.
+/// The addresses that are split.
 pub const ADDRESSES: [u64; 3] = [0x0000_7fff_ffff_fff8, 0xffff_8000_0000_0000, 0x20_1008];
 
-// An address that is not canonical.
+/// An address that is not canonical.
 pub const BEYOND: u64 = 0x0000_8000_0000_0000;
 
-// The runs of bytes that are scanned.
+/// The runs of bytes that are scanned.
 pub const RUNS: [&[u8]; 4] = [
     &[0x0f, 0x0f, 0x30],
     &[0x0f, 0x01, 0x18],
@@ -32,23 +32,23 @@ pub const RUNS: [&[u8]; 4] = [
     &[0x0f, 0x01, 0x0f, 0x22],
 ];
 
-// What the engine's functions answer.
+/// What the engine's functions answer.
 #[derive(Clone, Copy, Debug, PartialEq, Eq)]
 pub struct Answers {
-    // The parts of each of the addresses.
+    /// The parts of each of the addresses.
     pub parts: [Split; 3],
-    // The number of the refusal of a load, a store and a fetch at the address that is not canonical.
+    /// The number of the refusal of a load, a store and a fetch at the address that is not canonical.
     pub refusals: [u8; 3],
-    // Whether the scanner passes each of the runs.
+    /// Whether the scanner passes each of the runs.
     pub passes: [bool; 4],
-    // Whether a new write-once region can be written at offset 4,095, with length 1 and with length 2.
+    /// Whether a new write-once region can be written at offset 4,095, with length 1 and with length 2.
     pub once: [bool; 2],
-    // Whether an append-only region can be written at offset 15 and at offset 16, with length 1, once 16 bytes were written at its front.
+    /// Whether an append-only region can be written at offset 15 and at offset 16, with length 1, once 16 bytes were written at its front.
     pub appended: [bool; 2],
-    // The record of region 1, taken at frame 9 with 4,097 bytes, and how many frames that are.
+    /// The record of region 1, taken at frame 9 with 4,097 bytes, and how many frames that are.
     pub taken: u64,
     pub frames: u64,
-    // The record of 61 62 63, written at offset 16 of that region.
+    /// The record of 61 62 63, written at offset 16 of that region.
     pub written: [u64; 3],
 }
 
@@ -143,7 +143,7 @@ fn written() -> [u64; 3]
     })
 }
 
-// What the engine's functions answer: the figures, which are what the definitions say.
+/// What the engine's functions answer: the figures, which are what the definitions say.
 #[tactic(auto, using(crate::proofs::Figuring::figures))]
 pub fn compute() -> Answers
     ensures is { result ≡ marked }

@@ -1,6 +1,6 @@
-// Compares what the engine's functions answer with the marked figures, and what is printed for scripts with the answers of another emulator.
-// The scripts lie in the folder that the first argument names, or else in the one that this runs in: its file `names` has a line for each
-// NAME, and NAME.script and NAME.expected stand beside it.
+//! Compares what the engine's functions answer with the marked figures, and what is printed for scripts with the answers of another emulator.
+//! The scripts lie in the folder that the first argument names, or else in the one that this runs in: its file `names` has a line for each
+//! NAME, and NAME.script and NAME.expected stand beside it.
 
 #![tactic(auto)]
 

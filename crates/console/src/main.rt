@@ -1,4 +1,4 @@
-// The console: carries out a script, from the file that its first argument names, or else from standard input.
+//! The console: carries out a script, from the file that its first argument names, or else from standard input.
 
 #![tactic(auto)]
 

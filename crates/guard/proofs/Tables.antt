@@ -12,9 +12,9 @@ one_changed f xs i x = map-set f xs i x
 -- and the first n of a list, after one item of it was.
 pub one_among : {A : Type 0} (xs : List A) (n i : ℕ) (x : A) → take n (set xs i x) ≡ set (take n xs) i x
 one_among xs n i x = elim (cases_lt i n) [
-      | inl inside ↦ take-set-lt n xs i x inside
-      | inr past ↦ take-set-le n xs i x past ∙ sym (set_past (take n xs) i x (omega (arith, length-take n xs)))
-    ]
+  | inl inside ↦ take-set-lt n xs i x inside
+  | inr past ↦ take-set-le n xs i x past ∙ sym (set_past (take n xs) i x (omega (arith, length-take n xs)))
+]
 
 -- Past the end of a list there is nothing to replace.
 pub none_past : {A : Type 0} (xs : List A) (n i : ℕ) (x : A) → n ≡ length xs → n ≤ i → xs ≡ set xs i x

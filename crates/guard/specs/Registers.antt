@@ -26,6 +26,6 @@ new_registers = record { cr0 = 2 ^ 0 + 2 ^ 16 + 2 ^ 31; cr3 = 0; cr4 = 2 ^ 5 + 2
 
 -- The registers with a value in one of them.
 abbrev pub with_register : Registers → Register → ℕ → Registers
-with_register r register.Cr0 value = record { cr0 = value; cr3 = r.cr3; cr4 = r.cr4; efer = r.efer }
-with_register r register.Cr4 value = record { cr0 = r.cr0; cr3 = r.cr3; cr4 = value; efer = r.efer }
-with_register r register.Efer value = record { cr0 = r.cr0; cr3 = r.cr3; cr4 = r.cr4; efer = value }
+with_register r register.Cr0 value = record r { cr0 = value }
+with_register r register.Cr4 value = record r { cr4 = value }
+with_register r register.Efer value = record r { efer = value }

@@ -20,7 +20,7 @@ pub record Frames : Type 0 where
 
 -- The same with other words, or with other kinds.
 abbrev pub over_words : Frames → List ℕ → Frames
-over_words f ws = record { words = ws; kinds = f.kinds; beside = f.beside }
+over_words f ws = record f { words = ws }
 
 abbrev pub over_kinds : Frames → List FrameKind → Frames
-over_kinds f kinds = record { words = f.words; kinds = kinds; beside = f.beside }
+over_kinds f ks = record f { kinds = ks }

@@ -14,7 +14,7 @@ use paging::faults::{Access, AccessFault};
 use paging::walk::translate;
 
 impl<M: Memory> GuardedMemory<M> {
-    // The word that an access reaches from a root, or why it reaches none.
+    /// The word that an access reaches from a root, or why it reaches none.
     pub fn word_reached(
         &self,
         root: Option<u8>,
@@ -29,7 +29,7 @@ impl<M: Memory> GuardedMemory<M> {
         Ok(self.framed.memory().word(index))
     }
 
-    // Replaces the word that a store reaches from a root, or says why it reaches none and changes nothing.
+    /// Replaces the word that a store reaches from a root, or says why it reaches none and changes nothing.
     pub fn store_word(
         &mut self,
         root: Option<u8>,

@@ -7,84 +7,84 @@ use crate::refusals::Refusal;
 use crate::registers::Register;
 use paging::faults::AccessFault;
 
-// A call. Every number may be any of 64 bits.
+/// A call. Every number may be any of 64 bits.
 #[derive(Clone, Copy, Debug)]
 pub enum Call<'a> {
-    // A plain frame becomes a table of that level, and its words become zero.
+    /// A plain frame becomes a table of that level, and its words become zero.
     Declare {
         frame: u64,
         level: u64,
     },
-    // An entry is put into a table.
+    /// An entry is put into a table.
     Set {
         table: u64,
         index: u64,
         entry: u64,
     },
-    // A table becomes plain.
+    /// A table becomes plain.
     Retire {
         frame: u64,
     },
-    // Frames become a region of so many bytes, and their words become zero.
+    /// Frames become a region of so many bytes, and their words become zero.
     Take {
         region: u64,
         first: u64,
         length: u64,
     },
-    // Bytes are copied into a region.
+    /// Bytes are copied into a region.
     Write {
         region: u64,
         offset: u64,
         bytes: &'a [u8],
     },
-    // The frames of a region become reserve frames.
+    /// The frames of a region become reserve frames.
     Release {
         region: u64,
     },
-    // A plain frame that the scanner passes becomes code.
+    /// A plain frame that the scanner passes becomes code.
     Accept {
         frame: u64,
     },
-    // A code frame becomes plain.
+    /// A code frame becomes plain.
     Unaccept {
         frame: u64,
     },
-    // A register holds the value.
+    /// A register holds the value.
     LoadRegister {
         register: Register,
         value: u64,
     },
-    // CR3 holds the value, and the frame in its bits 12 to 51 is the root.
+    /// CR3 holds the value, and the frame in its bits 12 to 51 is the root.
     LoadRoot {
         value: u64,
     },
-    // The word at an address is answered.
+    /// The word at an address is answered.
     Load {
         address: u64,
     },
-    // The word at an address is replaced.
+    /// The word at an address is replaced.
     Store {
         address: u64,
         value: u64,
     },
-    // The word at an address is answered, to be executed.
+    /// The word at an address is answered, to be executed.
     Fetch {
         address: u64,
     },
 }
 
-// What came of a call.
+/// What came of a call.
 #[derive(Clone, Copy, Debug, PartialEq, Eq)]
 pub enum Answer {
-    // It was accepted, and has no value.
+    /// It was accepted, and has no value.
     Done,
-    // It was accepted, and answers this word.
+    /// It was accepted, and answers this word.
     Word(u64),
-    // It was a drain that was accepted, and copied out so many words.
+    /// It was a drain that was accepted, and copied out so many words.
     Drained(u64),
-    // It was refused.
+    /// It was refused.
     Refused(Refusal),
-    // It was an access that was refused.
+    /// It was an access that was refused.
     Faulted(AccessFault),
 }
 

@@ -10,7 +10,7 @@ use frames::kinds::FrameKind;
 use memory::traits::Memory;
 use std::marker::Model;
 
-// A memory, and what is known of each of its frames.
+/// A memory, and what is known of each of its frames.
 #[derive(Drop)]
 pub struct Framed<M: Memory> {
     memory: M,
@@ -28,7 +28,7 @@ impl<M: Memory> Model for Framed<M> {
 }
 
 impl<M: Memory> Framed<M> {
-    // A memory whose frames are all plain.
+    /// A memory whose frames are all plain.
     #[tactic(auto, using(crate::proofs::Tables::plain_kinds))]
     pub fn new(memory: M) -> Framed<M>
         ensures { result ≡ record { words = M.means.words memory; kinds = replicate (M.means.size memory) Plain; beside = M.means.beside memory } }
@@ -41,7 +41,7 @@ impl<M: Memory> Framed<M> {
         }
     }
 
-    // The memory, to be read.
+    /// The memory, to be read.
     pub fn memory(&self) -> &M
         ensures words { M.means.words result.now ≡ self.now.words }
         ensures beside { M.means.beside result.now ≡ self.now.beside }
@@ -49,7 +49,7 @@ impl<M: Memory> Framed<M> {
         &self.memory
     }
 
-    // How many frames there are.
+    /// How many frames there are.
     pub fn count(&self) -> u64
         ensures is { result ≡ length self.now.kinds }
         ensures few { result ≤ 256 }
@@ -57,7 +57,7 @@ impl<M: Memory> Framed<M> {
         u64::from(self.count).min(self.table.size())
     }
 
-    // The kind of a frame, or nothing where there is no such frame.
+    /// The kind of a frame, or nothing where there is no such frame.
     pub fn kind(&self, frame: u64) -> Option<FrameKind>
         ensures { result ≡ slice_get self.now.kinds frame }
     {
@@ -67,14 +67,14 @@ impl<M: Memory> Framed<M> {
         Some(self.table.kind(frame as u8))
     }
 
-    // Replaces a word, where there is one.
+    /// Replaces a word, where there is one.
     pub fn write(&mut self, place: u64, value: u64)
         ensures { self.new ≡ over_words self.old (slice_set self.old.words place value) }
     {
         let _ = self.memory.write(place, value);
     }
 
-    // Gives a frame another kind, where there is such a frame.
+    /// Gives a frame another kind, where there is such a frame.
     #[tactic(auto, using(crate::proofs::Tables::one_among))]
     pub fn change(&mut self, frame: u8, kind: FrameKind)
         ensures { self.new ≡ over_kinds self.old (slice_set self.old.kinds frame kind) }
@@ -92,7 +92,7 @@ impl<M: Memory> Framed<M> {
         }
     }
 
-    // Gives so many frames from a first one on another kind.
+    /// Gives so many frames from a first one on another kind.
     #[tactic(auto, unfolding(journal::specs::Pictures::filled), using(journal::proofs::Fillings::filled_more))]
     pub fn turn(&mut self, first: u64, count: u64, kind: FrameKind)
         requires { first + count < 2 ^ 64 }

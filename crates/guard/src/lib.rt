@@ -1,4 +1,4 @@
-// The guard: what it knows of each frame, which calls it refuses, and how an accepted one is carried out and noted.
+//! The guard: what it knows of each frame, which calls it refuses, and how an accepted one is carried out and noted.
 
 #![tactic(auto)]
 

@@ -25,7 +25,7 @@ impl<M: Memory> GuardedMemory<M> {
         )
     }
 
-    // Whether each of so many frames from a first one on is plain or reserve.
+    /// Whether each of so many frames from a first one on is plain or reserve.
     #[tactic(auto, unfolding(journal::specs::Pictures::free_frames), using(journal::proofs::Fillings::one_more_free, journal::proofs::Fillings::one_not_free))]
     pub fn are_free(&self, first: u8, count: u32) -> bool
         ensures { result ≡ free_frames self.now.picture.kinds first count }
@@ -38,21 +38,21 @@ impl<M: Memory> GuardedMemory<M> {
         true
     }
 
-    // Whether no writable entry anywhere names one of so many frames from a first one on.
+    /// Whether no writable entry anywhere names one of so many frames from a first one on.
     pub fn is_unwritable(&self, first: u64, count: u64) -> bool
         ensures { result ≡ unwritable self.now first count }
     {
         self.has_no_entry(Level::One, Sought::Writable { first, count })
     }
 
-    // Whether no executable entry anywhere names a frame.
+    /// Whether no executable entry anywhere names a frame.
     pub fn is_unexecutable(&self, frame: u64) -> bool
         ensures { result ≡ unexecutable self.now frame }
     {
         self.has_no_entry(Level::One, Sought::Executable { frame })
     }
 
-    // Whether no present entry one level above a table of a level names it.
+    /// Whether no present entry one level above a table of a level names it.
     pub fn is_unnamed_above(&self, level: Level, frame: u64) -> bool
         ensures { result ≡ unnamed_above self.now (Some (Table level)) frame }
     {
@@ -62,14 +62,14 @@ impl<M: Memory> GuardedMemory<M> {
         }
     }
 
-    // Whether the scanner passes a frame.
+    /// Whether the scanner passes a frame.
     pub fn is_scanned(&self, frame: u8) -> bool
         ensures { result ≡ scanned self.now.picture.words frame }
     {
         passes(self.framed.memory(), u64::from(frame))
     }
 
-    // Whether an entry names a table one level lower than one of this level.
+    /// Whether an entry names a table one level lower than one of this level.
     pub fn names_lower(&self, level: Level, entry: Entry) -> bool
         ensures { result ≡ is_one_lower (Some (Table level)) (kind_of self.now (frame_of entry.0)) }
     {
@@ -79,14 +79,14 @@ impl<M: Memory> GuardedMemory<M> {
         }
     }
 
-    // Whether an entry names a plain frame, or is not writable.
+    /// Whether an entry names a plain frame, or is not writable.
     pub fn writes_plain(&self, entry: Entry) -> bool
         ensures { result ≡ writes_plain self.now entry.0 }
     {
         !entry.is_writable() || matches!(self.kind(entry.frame()), Some(FrameKind::Plain))
     }
 
-    // Whether an entry names a code frame, or is not executable.
+    /// Whether an entry names a code frame, or is not executable.
     pub fn executes_code(&self, entry: Entry) -> bool
         ensures { result ≡ executes_code self.now entry.0 }
     {

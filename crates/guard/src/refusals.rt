@@ -6,60 +6,60 @@ ghost use Rattle.guard.specs.Refusals.{refusal_number, refusal_text};
 use std::error::Error;
 use std::fmt;
 
-// The question that had a no.
+/// The question that had a no.
 #[derive(Clone, Copy, Debug, PartialEq, Eq)]
 pub enum Refusal {
-    // The machine was made on figures that no machine can have.
+    /// The machine was made on figures that no machine can have.
     BadFigures,
-    // There is no such frame.
+    /// There is no such frame.
     NoFrame,
-    // There is no such level.
+    /// There is no such level.
     NoLevel,
-    // A frame is not plain, or for a take neither plain nor reserve.
+    /// A frame is not plain, or for a take neither plain nor reserve.
     NotPlain,
-    // A writable entry names a frame.
+    /// A writable entry names a frame.
     Writable,
-    // The frame is not a table.
+    /// The frame is not a table.
     NotTable,
-    // A table has no such index.
+    /// A table has no such index.
     NoIndex,
-    // The entry names a frame that there is not.
+    /// The entry names a frame that there is not.
     NamesNoFrame,
-    // The entry would name a large page.
+    /// The entry would name a large page.
     LargePage,
-    // The entry names no table one level lower.
+    /// The entry names no table one level lower.
     NamesNoTable,
-    // The entry is writable, and names a frame that is not plain.
+    /// The entry is writable, and names a frame that is not plain.
     NamesNotPlain,
-    // The entry is executable, and names a frame that is not code.
+    /// The entry is executable, and names a frame that is not code.
     NamesNotCode,
-    // The frame is the root.
+    /// The frame is the root.
     Root,
-    // A present entry one level up names the frame.
+    /// A present entry one level up names the frame.
     Named,
-    // The frame is not a table of level 4.
+    /// The frame is not a table of level 4.
     NotTopTable,
-    // The value has not all of the register's starting bits.
+    /// The value has not all of the register's starting bits.
     StartingBits,
-    // The policy does not govern the region.
+    /// The policy does not govern the region.
     Ungoverned,
-    // The region was taken before, or for a write or a release it is not live.
+    /// The region was taken before, or for a write or a release it is not live.
     RegionState,
-    // The length is not one that such a call can have.
+    /// The length is not one that such a call can have.
     Length,
-    // A frame does not exist, or the write does not end inside the region.
+    /// A frame does not exist, or the write does not end inside the region.
     Outside,
-    // The policy says no.
+    /// The policy says no.
     Forbidden,
-    // The scanner does not pass the frame.
+    /// The scanner does not pass the frame.
     Unscanned,
-    // The frame is not code.
+    /// The frame is not code.
     NotCode,
-    // An executable entry names the frame.
+    /// An executable entry names the frame.
     Executable,
-    // The journal has no room for the record.
+    /// The journal has no room for the record.
     JournalFull,
-    // The list is shorter than the journal.
+    /// The list is shorter than the journal.
     ShortList,
 }
 

@@ -3,7 +3,7 @@
 ghost use Rattle.std.specs.Prelude.{◌≡◌, ◌<◌};
 ghost use Rattle.guard.specs.Registers.{bit, new_registers, starting, with_register};
 
-// A register of which some bits have to stay set.
+/// A register of which some bits have to stay set.
 #[derive(Clone, Copy, Debug, PartialEq, Eq)]
 pub enum Register {
     Cr0,
@@ -11,7 +11,7 @@ pub enum Register {
     Efer,
 }
 
-// What the four registers hold.
+/// What the four registers hold.
 #[derive(Clone, Copy, Debug, PartialEq, Eq)]
 pub struct Registers {
     pub cr0: u64,
@@ -29,7 +29,7 @@ fn has_bit(value: u64, place: u32) -> bool
 }
 
 impl Register {
-    // Whether a value has each of the register's starting bits set.
+    /// Whether a value has each of the register's starting bits set.
     pub fn starts_with(self, value: u64) -> bool
         ensures { result ≡ starting self value }
     {
@@ -42,7 +42,7 @@ impl Register {
 }
 
 impl Registers {
-    // The registers of a new machine: their starting bits, and no others.
+    /// The registers of a new machine: their starting bits, and no others.
     pub fn new() -> Registers
         ensures { result ≡ new_registers }
     {
@@ -54,7 +54,7 @@ impl Registers {
         }
     }
 
-    // The same, with a value in one of them.
+    /// The same, with a value in one of them.
     pub fn with(self, register: Register, value: u64) -> Registers
         ensures { result ≡ with_register self register value }
     {

@@ -10,14 +10,14 @@ use memory::traits::{FRAME_WORDS, Memory};
 use paging::entries::Entry;
 use scanner::Scanner;
 
-// Which entries are looked for.
+/// Which entries are looked for.
 #[derive(Clone, Copy, Debug, PartialEq, Eq)]
 pub enum Sought {
-    // Writable ones that name one of so many frames from a first one on.
+    /// Writable ones that name one of so many frames from a first one on.
     Writable { first: u64, count: u64 },
-    // Executable ones that name the frame.
+    /// Executable ones that name the frame.
     Executable { frame: u64 },
-    // Present ones that name the frame.
+    /// Present ones that name the frame.
     Present { frame: u64 },
 }
 
@@ -104,7 +104,7 @@ impl<M: Memory> GuardedMemory<M> {
         self.is_table_of(frame, level) && !is_clear(self.framed.memory(), frame, sought)
     }
 
-    // Whether no entry of any table of a level is one of those that are looked for.
+    /// Whether no entry of any table of a level is one of those that are looked for.
     #[tactic(auto, using(crate::proofs::Scanning::no_table_yet, crate::proofs::Scanning::table_clear, crate::proofs::Scanning::table_wanted, crate::proofs::Scanning::none_anywhere))]
     pub fn has_no_entry(&self, level: Level, sought: Sought) -> bool
         ensures is { result ≡ no_entry self.now.picture level sought }

@@ -5,6 +5,10 @@ ghost use Rattle.frames.specs.declared.kinds.FrameKind.TheVariants.{Plain};
 ghost use Rattle.guard.specs.Tables.{kinds_of};
 
 use frames::kinds::FrameKind;
+use memory::traits::MOST_FRAMES;
+
+// There is a record for each frame that a memory can have.
+const RECORDS: usize = MOST_FRAMES as usize;
 
 // What is known of one frame.
 #[derive(Clone, Copy, Debug)]
@@ -12,14 +16,14 @@ struct FrameRecord {
     kind: FrameKind,
 }
 
-// One record for each frame that a memory can have.
+/// One record for each frame that a memory can have.
 #[derive(Debug, Drop)]
 pub struct FrameTable {
-    records: [FrameRecord; 256],
+    records: [FrameRecord; RECORDS],
 }
 
 impl FrameTable {
-    // A table of plain frames.
+    /// A table of plain frames.
     #[tactic(auto, using(crate::proofs::Tables::all_alike))]
     pub fn new() -> FrameTable
         ensures { kinds_of result ≡ replicate 256 Plain }
@@ -27,11 +31,11 @@ impl FrameTable {
         FrameTable {
             records: [FrameRecord {
                 kind: FrameKind::Plain,
-            }; 256],
+            }; RECORDS],
         }
     }
 
-    // How many records there are.
+    /// How many records there are.
     pub fn size(&self) -> u64
         ensures is { result ≡ length (kinds_of self.now) }
         ensures all { result ≡ 256 }
@@ -39,14 +43,14 @@ impl FrameTable {
         self.records.len() as u64
     }
 
-    // The kind in a record.
+    /// The kind in a record.
     pub fn kind(&self, frame: u8) -> FrameKind
         ensures { slice_get (kinds_of self.now) frame ≡ Some result }
     {
         self.records[frame as usize].kind
     }
 
-    // Changes one record, in its place.
+    /// Changes one record, in its place.
     #[tactic(auto, using(crate::proofs::Tables::one_changed))]
     pub fn change(&mut self, frame: u8, kind: FrameKind)
         ensures { kinds_of self.new ≡ slice_set (kinds_of self.old) frame kind }

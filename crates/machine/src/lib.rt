@@ -1,4 +1,4 @@
-// The machine: a guarded memory, its registers and a policy, and the calls on them.
+//! The machine: a guarded memory, its registers and a policy, and the calls on them.
 
 #![tactic(auto)]
 

@@ -25,7 +25,7 @@ use policy::span::{OFFSETS, Span};
 use policy::traits::Policy;
 use std::marker::Model;
 
-// A memory with its guard, the registers, and a policy. A machine on figures that no machine can have refuses every call.
+/// A memory with its guard, the registers, and a policy. A machine on figures that no machine can have refuses every call.
 #[derive(Drop)]
 pub struct Machine<M: Memory, P> {
     sound: bool,
@@ -70,7 +70,7 @@ impl<M: Memory, P: Policy> Machine<M, P> {
         }
     }
 
-    // A machine over a memory, with so many log frames from a first one on. On good figures the guarantee holds of every run from here.
+    /// A machine over a memory, with so many log frames from a first one on. On good figures the guarantee holds of every run from here.
     pub fn new(memory: M, policy: P, first: u64, count: u64) -> Machine<M, P>
         ensures is { result ≡ new_state M.means memory first count policy }
         ensures guarantee { IsTrue (good (M.means.size memory) first count) → Guaranteed P.means result }
@@ -104,7 +104,7 @@ impl<M: Memory, P: Policy> Machine<M, P> {
         Ok(region as u8)
     }
 
-    // A plain frame becomes a table of a level, and its words become zero.
+    /// A plain frame becomes a table of a level, and its words become zero.
     pub fn declare(&mut self, frame: u64, level: u64) -> Result<(), Refusal>
         ensures { Step P.means (declare frame level) (done_or_refused result) self.old self.new }
     {
@@ -122,7 +122,7 @@ impl<M: Memory, P: Policy> Machine<M, P> {
         })
     }
 
-    // An entry is put into a table.
+    /// An entry is put into a table.
     pub fn set(&mut self, table: u64, index: u64, entry: u64) -> Result<(), Refusal>
         ensures { Step P.means (set table index entry) (done_or_refused result) self.old self.new }
     {
@@ -160,7 +160,7 @@ impl<M: Memory, P: Policy> Machine<M, P> {
         })
     }
 
-    // A table becomes plain.
+    /// A table becomes plain.
     pub fn retire(&mut self, frame: u64) -> Result<(), Refusal>
         ensures { Step P.means (retire frame) (done_or_refused result) self.old self.new }
     {
@@ -177,7 +177,7 @@ impl<M: Memory, P: Policy> Machine<M, P> {
         self.guarded.enact(&Record::Retired { frame })
     }
 
-    // Frames become a region of so many bytes, and their words become zero.
+    /// Frames become a region of so many bytes, and their words become zero.
     pub fn take(&mut self, region: u64, first: u64, length: u64) -> Result<(), Refusal>
         ensures { Step P.means (take region first length) (done_or_refused result) self.old self.new }
     {
@@ -211,7 +211,7 @@ impl<M: Memory, P: Policy> Machine<M, P> {
         })
     }
 
-    // Bytes are copied into a region, and the policy is told once the journal has room for the record.
+    /// Bytes are copied into a region, and the policy is told once the journal has room for the record.
     #[tactic(auto, using(guard::proofs::Packings::all_bytes))]
     pub fn write(&mut self, region: u64, offset: u64, bytes: &[u8]) -> Result<(), Refusal>
         ensures bytes { are_bytes bytes.now ≡ true }
@@ -236,7 +236,7 @@ impl<M: Memory, P: Policy> Machine<M, P> {
         Ok(())
     }
 
-    // The frames of a region become reserve frames.
+    /// The frames of a region become reserve frames.
     pub fn release(&mut self, region: u64) -> Result<(), Refusal>
         ensures { Step P.means (release region) (done_or_refused result) self.old self.new }
     {
@@ -247,7 +247,7 @@ impl<M: Memory, P: Policy> Machine<M, P> {
         self.guarded.enact(&Record::Released { region })
     }
 
-    // A plain frame that the scanner passes becomes code.
+    /// A plain frame that the scanner passes becomes code.
     pub fn accept(&mut self, frame: u64) -> Result<(), Refusal>
         ensures { Step P.means (accept frame) (done_or_refused result) self.old self.new }
     {
@@ -264,7 +264,7 @@ impl<M: Memory, P: Policy> Machine<M, P> {
         self.guarded.enact(&Record::Accepted { frame })
     }
 
-    // A code frame becomes plain.
+    /// A code frame becomes plain.
     pub fn unaccept(&mut self, frame: u64) -> Result<(), Refusal>
         ensures { Step P.means (unaccept frame) (done_or_refused result) self.old self.new }
     {
@@ -278,7 +278,7 @@ impl<M: Memory, P: Policy> Machine<M, P> {
         self.guarded.enact(&Record::Unaccepted { frame })
     }
 
-    // A register other than CR3 holds the value.
+    /// A register other than CR3 holds the value.
     pub fn load_register(&mut self, register: Register, value: u64) -> Result<(), Refusal>
         ensures { Step P.means (load_register register value) (done_or_refused result) self.old self.new }
     {
@@ -292,7 +292,7 @@ impl<M: Memory, P: Policy> Machine<M, P> {
         Ok(())
     }
 
-    // CR3 holds the value, and the frame in its bits 12 to 51 is the root.
+    /// CR3 holds the value, and the frame in its bits 12 to 51 is the root.
     pub fn load_root(&mut self, value: u64) -> Result<(), Refusal>
         ensures { Step P.means (load_root value) (done_or_refused result) self.old self.new }
     {
@@ -305,7 +305,7 @@ impl<M: Memory, P: Policy> Machine<M, P> {
         Ok(())
     }
 
-    // The word at an address.
+    /// The word at an address.
     pub fn load(&self, address: u64) -> Result<u64, AccessFault>
         ensures { Step P.means (load address) (word_or_faulted result) self.now self.now }
     {
@@ -315,7 +315,7 @@ impl<M: Memory, P: Policy> Machine<M, P> {
         self.guarded.word_reached(self.root, address, Access::Load)
     }
 
-    // The word at an address is replaced.
+    /// The word at an address is replaced.
     pub fn store(&mut self, address: u64, value: u64) -> Result<(), AccessFault>
         ensures { Step P.means (store address value) (done_or_faulted result) self.old self.new }
     {
@@ -325,7 +325,7 @@ impl<M: Memory, P: Policy> Machine<M, P> {
         self.guarded.store_word(self.root, address, value)
     }
 
-    // The word at an address, to be executed.
+    /// The word at an address, to be executed.
     pub fn fetch(&self, address: u64) -> Result<u64, AccessFault>
         ensures { Step P.means (fetch address) (word_or_faulted result) self.now self.now }
     {
@@ -335,7 +335,7 @@ impl<M: Memory, P: Policy> Machine<M, P> {
         self.guarded.word_reached(self.root, address, Access::Fetch)
     }
 
-    // The words of the journal that are held are copied to the front of a list, and the journal holds none; or the list is too short (34), and nothing is changed.
+    /// The words of the journal that are held are copied to the front of a list, and the journal holds none; or the list is too short (34), and nothing is changed.
     pub fn drain(&mut self, list: &mut [u64]) -> Result<u64, Refusal>
         ensures step { Step P.means (drain (length list.old)) (drained_or_refused result) self.old self.new }
         ensures list { list.new ≡ with_piece (piece (drain (length list.old)) (drained_or_refused result) self.old) list.old }
@@ -346,7 +346,7 @@ impl<M: Memory, P: Policy> Machine<M, P> {
         self.guarded.drain(list)
     }
 
-    // Carries out a call.
+    /// Carries out a call.
     pub fn perform(&mut self, call: Call<'_>) -> Answer
         ensures bytes { are_bytes (bytes_of_write (request_of call.entry)) ≡ true }
         ensures step { Step P.means (request_of call.entry) result self.old self.new }

@@ -11,7 +11,7 @@ use guard::calls::{Answer, Call};
 use memory::traits::Memory;
 use policy::traits::Policy;
 
-// What a run carries out: a call, or a drain into what is left of the archive.
+/// What a run carries out: a call, or a drain into what is left of the archive.
 #[derive(Clone, Copy, Debug)]
 pub enum Task<'a> {
     Call(Call<'a>),
@@ -64,15 +64,15 @@ impl<M: Memory, P: Policy> Machine<M, P> {
     }
 }
 
-// A machine after a run, and how many words of the archive the run filled.
+/// A machine after a run, and how many words of the archive the run filled.
 #[derive(Drop)]
 pub struct Ran<M: Memory, P> {
     pub machine: Machine<M, P>,
     pub drained: usize,
 }
 
-// Makes a machine and carries out tasks on it, in their order. Their answers are put into the front of one list, and those for which it has no room are not kept. The words that
-// drains copy out are put into the front of an archive, one piece behind the other; a drain for which it has too little left is refused with 34, and its words stay held.
+/// Makes a machine and carries out tasks on it, in their order. Their answers are put into the front of one list, and those for which it has no room are not kept. The words that
+/// drains copy out are put into the front of an archive, one piece behind the other; a drain for which it has too little left is refused with 34, and its words stay held.
 pub fn run<M: Memory, P: Policy>(
     memory: M,
     policy: P,

@@ -5,7 +5,7 @@ ghost use Rattle.paging.specs.Addresses.{aligned, canonical, joined, parts_of, r
 
 use crate::parts::Split;
 
-// Every number can be split. The parts joined again are its bits 0 to 47.
+/// Every number can be split. The parts joined again are its bits 0 to 47.
 pub fn split(address: u64) -> Split
     ensures is { result ≡ parts_of address }
     ensures whole { joined result ≡ address % 2 ^ 48 }
@@ -19,7 +19,7 @@ pub fn split(address: u64) -> Split
     }
 }
 
-// Whether bits 48 to 63 repeat bit 47. Such an address is given by its parts.
+/// Whether bits 48 to 63 repeat bit 47. Such an address is given by its parts.
 pub fn is_canonical(address: u64) -> bool
     ensures is { result ≡ canonical address }
     ensures extends { IsTrue result ↔ (address ≡ joined (parts_of address) + repeated address) }
@@ -28,7 +28,7 @@ pub fn is_canonical(address: u64) -> bool
     high == 0 || high == 0x1_ffff
 }
 
-// Whether the address is that of a word: a multiple of 8.
+/// Whether the address is that of a word: a multiple of 8.
 pub fn is_aligned(address: u64) -> bool
     ensures { result ≡ aligned address }
 {

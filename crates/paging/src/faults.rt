@@ -9,7 +9,7 @@ use frames::kinds::Level;
 use std::error::Error;
 use std::fmt;
 
-// What an access does with the word at its address.
+/// What an access does with the word at its address.
 #[derive(Clone, Copy, Debug, PartialEq, Eq)]
 pub enum Access {
     Load,
@@ -29,14 +29,14 @@ impl fmt::Display for Access {
     }
 }
 
-// What an entry lacks.
+/// What an entry lacks.
 #[derive(Clone, Copy, Debug, PartialEq, Eq)]
 pub enum Lack {
-    // It is not present.
+    /// It is not present.
     Absent,
-    // It permits no store: its bit 1 is clear.
+    /// It permits no store: its bit 1 is clear.
     ReadOnly,
-    // It permits no fetch: its bit 63 is set.
+    /// It permits no fetch: its bit 63 is set.
     NoExecute,
 }
 
@@ -67,7 +67,7 @@ impl fmt::Display for Lack {
 
 impl Error for Lack {}
 
-// Where a walk ended: what the entry lacked, the level, and the table from which the entry was read.
+/// Where a walk ended: what the entry lacked, the level, and the table from which the entry was read.
 #[derive(Clone, Copy, Debug, PartialEq, Eq)]
 pub struct WalkFault {
     pub lack: Lack,
@@ -91,7 +91,7 @@ impl fmt::Display for WalkFault {
 
 impl Error for WalkFault {}
 
-// The walk's fault whole, with the address and the access beside it.
+/// The walk's fault whole, with the address and the access beside it.
 #[derive(Clone, Copy, Debug, PartialEq, Eq)]
 pub struct Stopped {
     pub fault: WalkFault,
@@ -113,18 +113,18 @@ impl fmt::Display for Stopped {
 
 impl Error for Stopped {}
 
-// Why an access is refused.
+/// Why an access is refused.
 #[derive(Clone, Copy, Debug, PartialEq, Eq)]
 pub enum AccessFault {
-    // The machine was made on figures that no machine can have.
+    /// The machine was made on figures that no machine can have.
     BadFigures,
-    // Bits 48 to 63 of the address do not repeat its bit 47.
+    /// Bits 48 to 63 of the address do not repeat its bit 47.
     NotCanonical,
-    // The address is not a multiple of 8.
+    /// The address is not a multiple of 8.
     Unaligned,
-    // No root was loaded.
+    /// No root was loaded.
     NoRoot,
-    // The walk ended at an entry.
+    /// The walk ended at an entry.
     Walk(Stopped),
 }
 
@@ -152,7 +152,7 @@ impl From<Stopped> for AccessFault {
 }
 
 impl AccessFault {
-    // Where the walk ended, if it was the walk.
+    /// Where the walk ended, if it was the walk.
     pub fn stopped(self) -> Option<Stopped>
         ensures { result ≡ stopped_in self }
     {

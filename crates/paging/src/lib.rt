@@ -1,4 +1,4 @@
-// Paging: what an entry of a page table says, and how an address finds its word.
+//! Paging: what an entry of a page table says, and how an address finds its word.
 
 #![tactic(auto)]
 

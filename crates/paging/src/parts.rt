@@ -5,7 +5,7 @@ ghost use Rattle.paging.specs.Addresses.{part_at};
 
 use frames::kinds::Level;
 
-// The index of an address at each level, and its offset in the frame, in bytes.
+/// The index of an address at each level, and its offset in the frame, in bytes.
 #[derive(Clone, Copy, Debug, PartialEq, Eq)]
 pub struct Split {
     pub four: u16,
@@ -16,7 +16,7 @@ pub struct Split {
 }
 
 impl Split {
-    // The index at a level.
+    /// The index at a level.
     pub fn index(self, level: Level) -> u16
         ensures { result ≡ part_at level self }
     {

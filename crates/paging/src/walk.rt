@@ -85,7 +85,7 @@ fn reach<M: Memory>(memory: &M, root: u8, address: u64, access: Access) -> Resul
     Ok(one.entry.frame())
 }
 
-// The same, and what such answers mean: this follows from the other, of any memory.
+/// The same, and what such answers mean: this follows from the other, of any memory.
 #[tactic(auto, using(crate::proofs::Walking::answers_translate, crate::proofs::Walking::faults_say))]
 pub fn walk<M: Memory>(memory: &M, root: u8, address: u64, access: Access) -> Result<u64, WalkFault>
     ensures is { result ≡ walked (M.means.words memory.now) root address access }
@@ -96,7 +96,7 @@ pub fn walk<M: Memory>(memory: &M, root: u8, address: u64, access: Access) -> Re
     reach(memory, root, address, access)
 }
 
-// The index in the memory of the word that an address reaches.
+/// The index in the memory of the word that an address reaches.
 pub fn translate<M: Memory>(
     memory: &M,
     root: Option<u8>,

@@ -1,5 +1,5 @@
-// The worked session, carried out by `run` over a list of words and over a list of bytes: each call with its answer, the words drained, and what they
-// play back to.
+//! The worked session, carried out by `run` over a list of words and over a list of bytes: each call with its answer, the words drained, and what they
+//! play back to.
 
 #![tactic(auto)]
 

@@ -165,7 +165,7 @@ new_memory list_kind size = record { basis = supplied (replicate (512 * frames_f
 
 -- with another basis
 abbrev pub with_basis : (Basis → Basis) → Held → Held
-with_basis change h = record { basis = change h.basis; kept = h.kept }
+with_basis change h = record h { basis = change h.basis }
 
 -- with one word of a supplied memory replaced
 abbrev pub with_word : ℕ → ℕ → Basis → Basis
@@ -184,7 +184,7 @@ with_call q (machined f s) = machined f (call_after q s)
 
 -- with more words kept
 abbrev pub with_kept : List ℕ → Held → Held
-with_kept ws h = record { basis = h.basis; kept = h.kept ++ ws }
+with_kept ws h = record h { kept = h.kept ++ ws }
 
 -- the words that a call copies out of what a session stands on
 abbrev pub copied_by : Request → Basis → List ℕ

@@ -18,21 +18,21 @@ use text::numbers::{bytes, decimal};
 use text::outcomes::Unread;
 use text::printing::{HexBytes, Hexadecimal};
 
-// A call that a line asks for.
+/// A call that a line asks for.
 #[derive(Debug, Drop)]
 pub enum Asked {
-    // A write, with its bytes.
+    /// A write, with its bytes.
     Write {
         region: u64,
         offset: u64,
         bytes: Vec<u8>,
     },
-    // Any other call.
+    /// Any other call.
     Other(Call<'static>),
 }
 
 impl Asked {
-    // The call, which borrows the bytes of a write.
+    /// The call, which borrows the bytes of a write.
     pub fn call(&self) -> Call<'_>
         ensures { request_of result ≡ asked self.now }
     {

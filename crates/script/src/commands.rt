@@ -17,7 +17,7 @@ use text::numbers::{bytes, decimal, hexadecimal};
 use text::outcomes::Unread;
 use text::printing::{HexBytes, Hexadecimal};
 
-// What a supplied list is made of.
+/// What a supplied list is made of.
 #[derive(Clone, Copy, Debug, PartialEq, Eq)]
 pub enum ListKind {
     Words,
@@ -25,7 +25,7 @@ pub enum ListKind {
 }
 
 impl ListKind {
-    // The longest list of this kind that a script may supply.
+    /// The longest list of this kind that a script may supply.
     pub fn longest(self) -> u64
         ensures { result ≡ most self }
     {
@@ -62,20 +62,20 @@ impl fmt::Display for ListKind {
     }
 }
 
-// What a line asks for.
+/// What a line asks for.
 #[derive(Debug, Drop)]
 pub enum Command {
     Memory { kind: ListKind, size: u64 },
     Word { frame: u64, index: u64, value: u64 },
     Machine { first: u64, count: u64 },
     Call(Asked),
-    // Drain the journal into a list of that length.
+    /// Drain the journal into a list of that length.
     Drain { length: u64 },
     Scan { bytes: Vec<u8> },
     Split { address: u64 },
     Journal { words: Vec<u64> },
     Records,
-    // Play with the log figures of the machine.
+    /// Play with the log figures of the machine.
     PlayLog,
     Play { first: u64, count: u64 },
 }
@@ -314,7 +314,7 @@ fn named(heap: Global, name: &[u8], words: &mut Words<'_>) -> Result<Command, Un
     Ok(Command::Call(call))
 }
 
-// Reads a line, with or without its line end. A line that holds no word before its comment asks for nothing.
+/// Reads a line, with or without its line end. A line that holds no word before its comment asks for nothing.
 #[tactic(auto, unfolding(text::specs::Lines::after_words))]
 pub fn read(heap: Global, line: &[u8]) -> Result<Option<Command>, Unread>
     ensures wants { IsTrue (wants_memory result) → IsTrue (asks_for_list line.now) × IsTrue (is_some (reading line.now)) }

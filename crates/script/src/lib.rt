@@ -1,4 +1,4 @@
-// Reads console scripts and carries them out, line by line.
+//! Reads console scripts and carries them out, line by line.
 
 #![tactic(auto)]
 

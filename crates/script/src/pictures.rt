@@ -107,7 +107,7 @@ impl fmt::Display for Picture<'_> {
     }
 }
 
-// A journal that was played to its end: how many records there were, and what they made of words and of the kinds of frames.
+/// A journal that was played to its end: how many records there were, and what they made of words and of the kinds of frames.
 #[derive(Debug, Drop)]
 pub struct Played {
     pub records: u64,
@@ -127,7 +127,7 @@ impl fmt::Display for Played {
     }
 }
 
-// Why a journal was not played, or not to its end.
+/// Why a journal was not played, or not to its end.
 #[derive(Clone, Copy)]
 pub struct Refusal(pub PlayFault);
 

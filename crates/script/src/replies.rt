@@ -41,7 +41,7 @@ impl Session {
         Ok(())
     }
 
-    // Reads a line, carries it out, and puts what is printed for it behind what `out` holds.
+    /// Reads a line, carries it out, and puts what is printed for it behind what `out` holds.
     pub fn line(
         &mut self,
         heap: Global,

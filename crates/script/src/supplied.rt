@@ -8,7 +8,7 @@ use memory::list;
 use memory::traits::Memory;
 use std::alloc::{AllocError, Global};
 
-// A list of words or of bytes.
+/// A list of words or of bytes.
 #[derive(Drop)]
 pub enum Supplied {
     Words(Vec<u64>),
@@ -24,8 +24,8 @@ fn zeros<T: Item<N>, const N: usize>(heap: Global, size: u64) -> Result<Vec<T>, 
 }
 
 impl Supplied {
-    // A list of zeros. Kind and size are the fields of the command that asks for it, and a struct of the two would only be
-    // taken apart again.
+    /// A list of zeros. Kind and size are the fields of the command that asks for it, and a struct of the two would only be
+    /// taken apart again.
     pub fn zeros(heap: Global, kind: ListKind, size: u64) -> Result<Supplied, AllocError>
         ensures list { IfOk result (ZeroList kind size) }
         ensures words { IfOk result (λ s. supplied_words s ≡ replicate (512 * frames_for kind size) 0) }

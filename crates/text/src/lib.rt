@@ -1,4 +1,4 @@
-// The text of scripts: lines and their words, numbers and bytes, read and printed.
+//! The text of scripts: lines and their words, numbers and bytes, read and printed.
 
 #![tactic(auto)]
 

@@ -23,14 +23,14 @@ fn without(line: &[u8], end: u8) -> &[u8]
     line.strip_suffix(&[end]).unwrap_or(line)
 }
 
-// The line without its line feed, and without a carriage return before that.
+/// The line without its line feed, and without a carriage return before that.
 pub fn line_text(line: &[u8]) -> &[u8]
     ensures { result.now ≡ line_text line.now }
 {
     without(without(line, b'\n'), b'\r')
 }
 
-// What stands before the line's comment.
+/// What stands before the line's comment.
 pub fn command_part(line: &[u8]) -> &[u8]
     ensures { result.now ≡ command_part line.now }
 {
@@ -63,7 +63,7 @@ fn without_indent(text: &[u8]) -> &[u8]
     rest
 }
 
-// The words of a text in turn. A clause sees the text that is left.
+/// The words of a text in turn. A clause sees the text that is left.
 #[derive(Drop)]
 pub struct Words<'a> {
     left: &'a [u8],
@@ -82,7 +82,7 @@ impl<'a> Words<'a> {
         Words { left: text }
     }
 
-    // The text that is left.
+    /// The text that is left.
     pub fn rest(&self) -> &'a [u8]
         ensures { result.now ≡ self.now }
     {
@@ -119,7 +119,7 @@ fn nth_word(text: &[u8], place: usize) -> Option<&[u8]>
     Words::new(text).nth(place)
 }
 
-// The word at a place of the text, counted from 0; empty where the text has fewer words.
+/// The word at a place of the text, counted from 0; empty where the text has fewer words.
 #[tactic(auto, using(crate::proofs::Finding::word_found))]
 pub fn word(text: &[u8], place: usize) -> &[u8]
     ensures { result.now ≡ word_at text.now place }
@@ -127,7 +127,7 @@ pub fn word(text: &[u8], place: usize) -> &[u8]
     nth_word(text, place).unwrap_or(b"")
 }
 
-// Whether the word at a place of the text is spelled like a name.
+/// Whether the word at a place of the text is spelled like a name.
 pub fn is_word(text: &[u8], place: usize, name: &[u8]) -> bool
     ensures { result ≡ bytes_eq (word_at text.now place) name.now }
 {
@@ -142,14 +142,14 @@ fn trimmed(text: &[u8]) -> &[u8]
     &rest[..rest.len() - blanks_at_end(rest)]
 }
 
-// The line as it is shown: without its line end, and without the blanks at its two ends.
+/// The line as it is shown: without its line end, and without the blanks at its two ends.
 pub fn shown_text(line: &[u8]) -> &[u8]
     ensures { result.now ≡ shown_text line.now }
 {
     trimmed(line_text(line))
 }
 
-// Every text is words set apart by blanks, and `word` finds each of them at its place.
+/// Every text is words set apart by blanks, and `word` finds each of them at its place.
 pub fn words_are_found()
     ensures { WordsFound }
 {}

@@ -69,8 +69,8 @@ impl Radix {
     }
 }
 
-// The number that a word of decimal digits writes, or nothing: never a number cut down to 64 bits. This one and the next
-// are names for one method: a caller says `decimal(word)`, and needs to know of no radix.
+/// The number that a word of decimal digits writes, or nothing: never a number cut down to 64 bits. This one and the next
+/// are names for one method: a caller says `decimal(word)`, and needs to know of no radix.
 pub fn decimal(word: &[u8]) -> Option<u64>
     ensures value { result ≡ number_of 10 word.now }
     ensures means { SomeIff result (Number 10 word.now) (digits_value 10 word.now) }
@@ -78,7 +78,7 @@ pub fn decimal(word: &[u8]) -> Option<u64>
     Radix::Decimal.number(word)
 }
 
-// The same in hexadecimal digits of either case.
+/// The same in hexadecimal digits of either case.
 pub fn hexadecimal(word: &[u8]) -> Option<u64>
     ensures value { result ≡ number_of 16 word.now }
     ensures means { SomeIff result (Number 16 word.now) (digits_value 16 word.now) }
@@ -126,7 +126,7 @@ fn pairs(heap: Global, digits: &[u8]) -> Result<Vec<u8>, Unread>
     Ok(out)
 }
 
-// The bytes that a word writes, the one at the lowest address first. `-` writes none.
+/// The bytes that a word writes, the one at the lowest address first. `-` writes none.
 pub fn bytes(heap: Global, word: &[u8]) -> Result<Vec<u8>, Unread>
     ensures wants { IsTrue (wants_memory result) → (0 < length word.now) × (length word.now % 2 ≡ 0) × IsTrue (is_some (bytes_of word.now)) }
     ensures gives { Gives vec_items result (bytes_of word.now) }

@@ -9,9 +9,9 @@ use std::fmt;
 
 #[derive(Clone, Copy, Debug, PartialEq, Eq)]
 pub enum Unread {
-    // The line cannot be read; nothing was done.
+    /// The line cannot be read; nothing was done.
     Unreadable,
-    // There was no memory for what the line asks; nothing was done.
+    /// There was no memory for what the line asks; nothing was done.
     Memory,
 }
 
