@@ -11,6 +11,7 @@ ghost use Rattle.journal.specs.Bytes.{are_bytes};
 
 use frames::figures::LogFigures;
 use frames::kinds::{FrameKind, Level};
+use frames::numbers::OFFSETS;
 use frames::regions::{RegionState, frames_needed};
 use guard::calls::{Answer, Call};
 use guard::guarded::GuardedMemory;
@@ -21,7 +22,7 @@ use journal::records::Record;
 use memory::traits::{FRAME_WORDS, Memory};
 use paging::entries::Entry;
 use paging::faults::{Access, AccessFault};
-use policy::span::{OFFSETS, Span};
+use policy::span::Span;
 use policy::traits::Policy;
 use std::marker::Model;
 

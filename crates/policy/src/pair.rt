@@ -5,8 +5,12 @@ ghost use Rattle.policy.specs.PairLaws.{pair_laws};
 ghost use Rattle.policy.specs.Pairs.{pair_means, SideBySide};
 
 use crate::span::Span;
-use crate::traits::{MOST_REGIONS, Policy};
+use crate::traits::Policy;
+use frames::numbers::REGIONS;
 use std::marker::Model;
+
+// No policy shows more regions.
+const MOST_REGIONS: u64 = REGIONS as u64;
 
 // Two policies as one: the second's regions follow the first's.
 #[derive(Drop)]

@@ -4,8 +4,7 @@ ghost use Rattle.std.specs.Prelude.{◌≡◌, ◌+◌, ◌≤◌};
 ghost use Rattle.std.specs.Option.{option_map};
 ghost use Rattle.policy.specs.Spans.{span_of};
 
-// Every region has so many offsets.
-pub const OFFSETS: u64 = 65536;
+use frames::numbers::OFFSETS;
 
 // Some of a region's offsets, one or more, that lie one behind the other.
 #[derive(Clone, Copy, Debug, PartialEq, Eq)]

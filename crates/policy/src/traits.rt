@@ -5,9 +5,6 @@ ghost use Rattle.policy.specs.Policies.{Lawful, Meaning, permitted};
 
 use crate::span::Span;
 
-// No policy shows more regions.
-pub const MOST_REGIONS: u64 = 16;
-
 // Decides which offsets of its regions may still be written. How many regions there are never changes. A kind is not
 // `Copy`: whoever kept a copy could go back to what it was before a write.
 pub trait Policy {
