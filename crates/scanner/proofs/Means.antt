@@ -1,12 +1,16 @@
 -- The scanner's states mean what the rule says: one byte, and a run of bytes.
-use Rattle.std.proofs.Common.{◌≡◌, ℕ, Bool, true, false, cond, ◌&&◌, List, [], ◌∷◌, ◌++◌, sym, refl, ap, ◌∙◌, arith}
+use Rattle.std.proofs.Common.{◌≡◌, ℕ, ◌<◌, map, get_or, Bool, true, false, if◌then◌else◌, ◌&&◌, List, [], ◌∷◌, ◌++◌, sym, refl, ap, ◌∙◌, arith, subst}
 use Rattle.scanner.proofs.Cleans.{passing_decides}
 use Rattle.scanner.specs.Classes.{class_of}
 use Rattle.scanner.specs.Rule.{passing}
 use Rattle.scanner.specs.States.{Stands, Fed, seen, step, feed_all}
+use Rattle.scanner.specs.declared.classes.ByteClass.{ByteClass}
+use Rattle.scanner.specs.declared.classes.ByteClass.TheVariants.{Other}
 use Rattle.scanner.specs.declared.scan.State.{State}
 use Rattle.scanner.specs.declared.scan.State.TheVariants.{Nothing, Lead, Group}
 use Rattle.std.proofs.lemmas.List.{append-nil}
+use Rattle.std.proofs.lemmas.List.FromFn.{get_or-map-range_with_len}
+use Rattle.std.specs.List.{range_with_len}
 use Rattle.std.proofs.lemmas.Bool.Decides.{nat_tests, Decides-at}
 
 -- one byte
@@ -20,7 +24,7 @@ go_on :
     (p : Bool × State) (bs xs : List ℕ) →
     passing (seen p.1 ++ (bs ++ xs)) ≡ ((feed_all p.1 bs).0 && passing (seen (feed_all p.1 bs).1 ++ xs)) →
     (p.0 && passing (seen p.1 ++ (bs ++ xs))) ≡
-    ((cond p.0 (feed_all p.1 bs) p).0 && passing (seen (cond p.0 (feed_all p.1 bs) p).1 ++ xs))
+    ((if p.0 then feed_all p.1 bs else p).0 && passing (seen (if p.0 then feed_all p.1 bs else p).1 ++ xs))
 go_on (true, s) bs xs h = h
 go_on (false, s) bs xs h = refl
 
@@ -45,3 +49,11 @@ fed s bs r t e =
       ends = n;
       clean = Decides-at (r && passing (seen t)) (passing (seen s ++ bs)) (sym n) (passing_decides (seen s ++ bs));
     }
+
+-- An entry of the table of classes is the class of its place,
+pub entry_class : (table : List ByteClass) (i : ℕ) → table ≡ map class_of (range_with_len 0 256) → i < 256 → get_or table i Other ≡ class_of i
+entry_class table i is low = ap (λ (t : List ByteClass). get_or t i Other) is ∙ get_or-map-range_with_len class_of 0 256 i i Other (omega arith) (omega arith)
+
+-- and stands for the byte of that number.
+pub entry_stands : (table : List ByteClass) (i : ℕ) → table ≡ map class_of (range_with_len 0 256) → i < 256 → Stands i (get_or table i Other)
+entry_stands table i is low = subst (Stands i) (sym (entry_class table i is low)) (step_means i)

@@ -1,6 +1,6 @@
 -- The scanner's states: what each stands for, and how bytes change it.
--- Names: `forbidden`, `seen`, `forbids`, `next`, `step`, `Stands`, `feed_all`, `Fed`.
-use Rattle.std.specs.Prelude.{◌≡◌, ℕ, Bool, true, false, cond, ◌&&◌, List, [], ◌∷◌, ◌++◌, codes, Decides}
+-- Names: `forbidden_text`, `seen`, `forbids`, `next`, `step`, `Stands`, `feed_all`, `Fed`.
+use Rattle.std.specs.Prelude.{◌≡◌, ℕ, Bool, true, false, if◌then◌else◌, ◌&&◌, List, [], ◌∷◌, ◌++◌, codes, Decides}
 use Rattle.scanner.specs.Classes.{class_of}
 use Rattle.scanner.specs.declared.classes.ByteClass.{ByteClass}
 use Rattle.scanner.specs.declared.classes.ByteClass.TheVariants as class
@@ -9,8 +9,8 @@ use Rattle.scanner.specs.declared.scan.State.{State}
 use Rattle.scanner.specs.declared.scan.State.TheVariants.{Nothing, Lead, Group}
 
 -- what happened where a sequence completes, and what to do
-abbrev pub forbidden : List ℕ
-forbidden = codes "the code could change the processor's protection: take out that sequence"
+abbrev pub forbidden_text : List ℕ
+forbidden_text = codes "the code could change the processor's protection: take out that sequence"
 
 -- the bytes that a state stands for: none, 0F, or 0F 01
 abbrev pub seen : State → List ℕ
@@ -32,7 +32,7 @@ next s c = Nothing
 
 -- one byte of a class: whether the scan goes on, and the state after, which a refusal leaves as it was
 abbrev pub step : State → ByteClass → Bool × State
-step s c = cond (forbids s c) (false, s) (true, next s c)
+step s c = if forbids s c then (false, s) else (true, next s c)
 
 -- the class c stands for the byte b: in each state, and whatever follows, the step by c keeps the rule's answer
 abbrev pub Stands : ℕ → ByteClass → Type 0
@@ -41,7 +41,7 @@ Stands b c = (s : State) (xs : List ℕ) → passing (seen s ++ (b ∷ xs)) ≡ 
 -- a run of bytes: whether all went on, and the state after the last that was fed
 unfoldable pub feed_all : State → List ℕ → Bool × State
 feed_all s [] = (true, s)
-feed_all s (b ∷ bs) = cond (step s (class_of b)).0 (feed_all (step s (class_of b)).1 bs) (step s (class_of b))
+feed_all s (b ∷ bs) = if (step s (class_of b)).0 then feed_all (step s (class_of b)).1 bs else step s (class_of b)
 
 -- feeding the bytes bs in the state s answered r and left the state t
 pub record Fed (s : State) (bs : List ℕ) (r : Bool) (t : State) : Type 0 where

@@ -5,22 +5,22 @@ ghost use Rattle.std.specs.List.{range_with_len};
 ghost use Rattle.scanner.specs.Classes.{class_of, number_of};
 ghost use Rattle.scanner.specs.States.{Stands};
 
-// What a byte can be to a forbidden sequence.
+/// What a byte can be to a forbidden sequence.
 #[derive(Clone, Copy, Debug, PartialEq, Eq)]
 pub enum ByteClass {
-    // None of the below.
+    /// None of the below.
     Other,
-    // 0F, the byte that every forbidden sequence begins with.
+    /// 0F, the byte that every forbidden sequence begins with.
     Lead,
-    // 22 and 30: after 0F, a write of a control register or of a model-specific register.
+    /// 22 and 30: after 0F, a write of a control register or of a model-specific register.
     Writes,
-    // 01: after 0F, a group of instructions, of which a third byte picks one.
+    /// 01: after 0F, a group of instructions, of which a third byte picks one.
     Group,
-    // 18 to 1F, 58 to 5F and 98 to 9F: after 0F 01, a load of the interrupt table register.
+    /// 18 to 1F, 58 to 5F and 98 to 9F: after 0F 01, a load of the interrupt table register.
     Loads,
 }
 
-// The number of a class.
+/// The number of a class: 0 to 4.
 impl From<ByteClass> for u8 {
     ghost from_gives = { λ class number. number ≡ number_of class };
 
@@ -86,25 +86,16 @@ const CLASSES: [ByteClass; 256] = [
     Other, Other, Other, Other, Other,
 ];
 
-// The class of a byte.
+/// The class of a byte.
+#[tactic(auto, using(crate::proofs::Means::entry_class, crate::proofs::Means::entry_stands))]
 pub fn class(byte: u8) -> ByteClass
     ensures is { result ≡ class_of byte }
     ensures stands { Stands byte result }
 {
-    entry(byte as usize)
+    table()[byte as usize]
 }
 
-// An entry of the table. This function and the next are apart so that a wrong entry is found at the table, and a wrong
-// place at the class.
-fn entry(index: usize) -> ByteClass
-    requires { index < 256 }
-    ensures is { result ≡ class_of index }
-    ensures stands { Stands index result }
-{
-    table()[index]
-}
-
-// The table, which is the rule of the classes computed at every byte.
+// The table, which is the rule of the classes computed at every byte. A wrong entry is found here, a wrong place in `class`.
 fn table() -> &'static [ByteClass; 256]
     ensures { result.now ≡ map class_of (range_with_len 0 256) }
 {

@@ -1,16 +1,14 @@
-// A scanner for code that cannot change the processor's protection.
-//
-// A run of bytes passes where 0F never has 22 or 30 behind it, and 0F 01 never a byte of 18 to 1F, 58 to 5F or 98 to 9F,
-// and where neither 0F nor 0F 01 ends it.
+//! A scanner for code that cannot change the processor's protection.
+//!
+//! A run of bytes passes where 0F never has 22 or 30 behind it, and 0F 01 never a byte of 18 to 1F, 58 to 5F or 98 to 9F,
+//! and where neither 0F nor 0F 01 ends it.
 
 #![tactic(auto)]
 
 pub mod classes;
-pub mod code;
 pub mod scan;
 #[cfg(test)]
 mod tests;
 
 pub use classes::{ByteClass, class};
-pub use code::passes;
-pub use scan::{Forbidden, Scanner, State};
+pub use scan::{Forbidden, Scanner, State, passes};

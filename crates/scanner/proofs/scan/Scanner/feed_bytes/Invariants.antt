@@ -1,8 +1,7 @@
--- What is left after i bytes; the second part is what the return after the loop needs.
-use Rattle.scanner.proofs.Runs.{Sofar}
+-- What is left of the bytes gives what all of them give.
+use Rattle.std.proofs.Common.{◌≡◌, drop}
 use Rattle.scanner.proofs.scan.Scanner.feed_bytes.Given as goal
-use Rattle.scanner.specs.States.{Fed}
-use Rattle.std.proofs.Common.{◌≤◌, true, length, drop}
+use Rattle.scanner.specs.States.{feed_all}
 
 abbrev pub invariant-loop-byte : goal.invariant-loop-byte
-invariant-loop-byte l = Sofar l.initial.self l.bytes (drop l.byte-index l.bytes) l.self × (length l.bytes ≤ l.byte-index → Fed l.initial.self l.bytes true l.self)
+invariant-loop-byte l = feed_all l.self (drop l.byte-index l.bytes) ≡ feed_all l.initial.self l.bytes
