@@ -2,7 +2,7 @@
 use Rattle.std.proofs.Common.{◌≡◌, ℕ, zero, suc, ◌+◌, ◌<◌, ◌≤◌, Bool, true, false, not, ◌&&◌, ◌||◌, List, [], length, drop, set, ltb, get_or, replicate, IsTrue, refl, sym, ap, ◌∙◌, ⊎_elim, add-one, arith}
 use borrow.Rule.Slice.PartMut.{mid_of, put_mid}
 use lib.Seq.{paste}
-use Rattle.policy.specs.Kinds.{below, cleared, flagged, write_once_close, write_once_openness}
+use Rattle.policy.specs.Kinds.{below, flags_without, is_flagged, write_once_close, write_once_openness}
 use Rattle.policy.specs.Laws.{permitted_last}
 use Rattle.policy.specs.Policies.{all_open, permitted}
 use Rattle.policy.specs.Spans.{is_span}
@@ -23,11 +23,11 @@ set_throughout n o = ⊎_elim
     (cases_lt o n)
 
 -- So a region whose flags are all set is open below 4,096.
-pub all_set : (o : ℕ) → flagged (replicate 4096 true) o ≡ below 4096 o
-all_set = set_throughout 4096
+pub flags_set : (o : ℕ) → is_flagged (replicate 4096 true) o ≡ below 4096 o
+flags_set = set_throughout 4096
 
 -- A stretch of flags is open where no flag of it is found to be clear.
-none_clear : (clear : Bool → Bool) → clear true ≡ false → clear false ≡ true → (flags : List Bool) (from k : ℕ) → from + k ≤ 4096 → length flags ≡ 4096 → not (list_any clear (mid_of from k flags)) ≡ all_open (flagged flags) from k
+none_clear : (clear : Bool → Bool) → clear true ≡ false → clear false ≡ true → (flags : List Bool) (from k : ℕ) → from + k ≤ 4096 → length flags ≡ 4096 → not (list_any clear (mid_of from k flags)) ≡ all_open (is_flagged flags) from k
 none_clear clear sets clears flags from zero room size = refl
 none_clear clear sets clears flags from (suc n) room size =
     let more : list_any clear (mid_of from (suc n) flags) ≡ (list_any clear (mid_of from n flags) || clear (get_or (drop from flags) n false)) =
@@ -59,14 +59,14 @@ past_flags policy offset n past = ⊎_elim
     (cases_Bool (permitted (write_once_openness policy) offset n))
 
 -- Flags of a stretch that are cleared one after the other are cleared all at once.
-cleared_pastes : (flags : List Bool) (offset n : ℕ) → offset + n ≤ length flags → cleared flags offset n ≡ paste flags offset (replicate n false) n
+cleared_pastes : (flags : List Bool) (offset n : ℕ) → offset + n ≤ length flags → flags_without flags offset n ≡ paste flags offset (replicate n false) n
 cleared_pastes flags offset zero room = paste_none flags offset []
 cleared_pastes flags offset (suc n) room =
     ap (λ l. set l (offset + n) false) (cleared_pastes flags offset n (omega arith)) ∙ simp add-one at (fill_from_more flags offset n false (omega arith))
 
 -- To fill the part of the flags that is a span's is to clear its flags.
-pub filled : (policy : WriteOnce) (part : List Bool) (from k offset n : ℕ) → part ≡ replicate (length (mid_of from k policy.fresh)) false → from ≡ offset → k ≡ n → offset + n ≤ 4096 → length policy.fresh ≡ 4096 → record { fresh = put_mid from k policy.fresh part } ≡ write_once_close policy offset n
-filled policy part from k offset n fills starts many room size =
+pub fill_clears : (policy : WriteOnce) (part : List Bool) (from k offset n : ℕ) → part ≡ replicate (length (mid_of from k policy.fresh)) false → from ≡ offset → k ≡ n → offset + n ≤ 4096 → length policy.fresh ≡ 4096 → record { fresh = put_mid from k policy.fresh part } ≡ write_once_close policy offset n
+fill_clears policy part from k offset n fills starts many room size =
     let long : length (mid_of from k policy.fresh) ≡ n = length-take-le k (drop from policy.fresh) (omega (arith, length-drop from policy.fresh)) ∙ many in
     ap (λ (l : List Bool). record { fresh = l }) (
     put_mid-paste from k policy.fresh part (replicate n false) n (fills ∙ ap (λ m. replicate m false) long) (sym many) (sym (length-replicate n false))

@@ -1,6 +1,6 @@
 -- A policy's answer to a span, offset by offset.
 use Rattle.std.proofs.Common.{◌≡◌, ℕ, zero, suc, ◌+◌, ◌≤◌, Bool, true, false, leb, refl, ap, ◌∙◌, arith}
-use Rattle.policy.specs.Kinds.{IsKind, append_only_close, append_only_closes, append_only_openness, kind_after, kind_opens, left_open, open_from, write_once_close, write_once_openness}
+use Rattle.policy.specs.Kinds.{Closes, IsKind, append_only_closes, append_only_means, kind_after, kind_means, kind_opens, open_from, write_once_means}
 use Rattle.policy.specs.Laws.{append_only_facts, permitted_alone, permitted_means, write_once_facts}
 use Rattle.policy.specs.Policies.{permitted}
 use Rattle.policy.specs.Spans.{covers, is_span}
@@ -24,16 +24,14 @@ unfolding permitted
 permitted_none offset zero = refl
 permitted_none offset (suc n) = and-false (is_span offset (suc n))
 
--- What a write leaves open in a kind.
-kind_left : {Self : Type 0} {openness : Self → ℕ → Bool} {closes : ℕ → ℕ → ℕ → Bool} {close : Self → ℕ → ℕ → Self} → IsKind openness closes close → (old new : Self) (region offset length r o : ℕ) → new ≡ kind_after openness close old region offset length
-    → kind_opens openness new r o ≡ left_open (closes offset length) (kind_opens openness old) region offset length r o
-kind_left {openness = openness} {close = close} kind old new region offset length r o is =
+-- What a write closes in a kind.
+kind_closes : {Self : Type 0} {openness : Self → ℕ → Bool} {closes : ℕ → ℕ → ℕ → Bool} {close : Self → ℕ → ℕ → Self} → IsKind openness closes close → (old new : Self) (region offset length : ℕ) → new ≡ kind_after openness close old region offset length
+    → Closes (kind_means openness close) closes old new region offset length
+kind_closes {openness = openness} {close = close} kind old new region offset length is r o =
     ap (λ x. kind_opens openness x r o) is ∙ grind (arith, nat_tests, permitted_alone, kind.leaves)
 
-pub append_only_left : (old new : AppendOnly) (region offset length : ℕ) → new ≡ kind_after append_only_openness append_only_close old region offset length
-    → (r o : ℕ) → kind_opens append_only_openness new r o ≡ left_open (append_only_closes offset length) (kind_opens append_only_openness old) region offset length r o
-append_only_left old new region offset length is r o = kind_left append_only_facts old new region offset length r o is
+pub append_only_told : (old new : AppendOnly) (region offset length : ℕ) → new ≡ append_only_means.after old region offset length → Closes append_only_means append_only_closes old new region offset length
+append_only_told = kind_closes append_only_facts
 
-pub write_once_left : (old new : WriteOnce) (region offset length : ℕ) → new ≡ kind_after write_once_openness write_once_close old region offset length
-    → (r o : ℕ) → kind_opens write_once_openness new r o ≡ left_open (covers offset length) (kind_opens write_once_openness old) region offset length r o
-write_once_left old new region offset length is r o = kind_left write_once_facts old new region offset length r o is
+pub write_once_told : (old new : WriteOnce) (region offset length : ℕ) → new ≡ write_once_means.after old region offset length → Closes write_once_means covers old new region offset length
+write_once_told = kind_closes write_once_facts

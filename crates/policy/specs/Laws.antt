@@ -1,7 +1,7 @@
--- That the kinds are policies. The traits take these proofs as values, so they stand here and not among the other proofs.
+-- That the kinds are policies. The trait takes these proofs as values, so they stand here and not among the other proofs.
 use Rattle.std.specs.Prelude.{◌≡◌, ℕ, zero, suc, pred, ◌+◌, ◌-◌, ◌≤◌, Bool, true, false, if◌then◌else◌, ◌&&◌, List, [], ◌∷◌, ◌==◌, ◌↔◌, IsTrue, nat_le, nat_lt, slice_index_or, slice_set, refl}
 use Rattle.std.proofs.Common.{ap, ◌∙◌, subst, ⊎_elim, arith}
-use Rattle.policy.specs.Kinds.{alone, append_only_close, append_only_closes, append_only_openness, cleared, flagged, free_close, free_closes, free_openness, IsKind, kind_means, kind_opens, open_from, write_once_close, write_once_openness}
+use Rattle.policy.specs.Kinds.{alone, append_only_close, append_only_closes, append_only_openness, flags_without, is_flagged, free_close, free_closes, free_openness, IsKind, kind_means, kind_opens, open_from, write_once_close, write_once_openness}
 use Rattle.policy.specs.Policies.{all_open, permitted, Lawful, Throughout}
 use Rattle.policy.specs.Spans.{covers, is_span}
 use Rattle.std.proofs.Math.Bool.{and-false}
@@ -80,16 +80,16 @@ set_clears (_ ∷ flags) zero = refl
 set_clears (_ ∷ flags) (suc i) = set_clears flags i
 
 -- The flags of a cleared stretch are clear, the others as they were.
-cleared_at : (flags : List Bool) (offset length o : ℕ) → slice_index_or (cleared flags offset length) o false ≡ (if covers offset length o then false else slice_index_or flags o false)
+cleared_at : (flags : List Bool) (offset length o : ℕ) → slice_index_or (flags_without flags offset length) o false ≡ (if covers offset length o then false else slice_index_or flags o false)
 cleared_at flags offset zero o = grind (arith, nat_tests)
 cleared_at flags offset (suc n) o = ⊎_elim
-    (λ here. let off : slice_index_or (slice_set (cleared flags offset n) (offset + n) false) o false ≡ false = ap (λ x. slice_index_or (slice_set (cleared flags offset n) (offset + n) false) x false) here ∙ set_clears (cleared flags offset n) (offset + n) in grind (arith, nat_tests))
-    (λ there. let same = get_or-set_other (cleared flags offset n) (offset + n) o false false there in
+    (λ here. let off : slice_index_or (slice_set (flags_without flags offset n) (offset + n) false) o false ≡ false = ap (λ x. slice_index_or (slice_set (flags_without flags offset n) (offset + n) false) x false) here ∙ set_clears (flags_without flags offset n) (offset + n) in grind (arith, nat_tests))
+    (λ there. let same = get_or-set_other (flags_without flags offset n) (offset + n) o false false there in
     let was = cleared_at flags offset n o in grind (arith, nat_tests))
     (cases_eq o (offset + n))
 
 -- So it is with the flags below 4,096.
-flagged_falls : (flags : List Bool) (offset length o : ℕ) → flagged (cleared flags offset length) o ≡ (if covers offset length o then false else flagged flags o)
+flagged_falls : (flags : List Bool) (offset length o : ℕ) → is_flagged (flags_without flags offset length) o ≡ (if covers offset length o then false else is_flagged flags o)
 flagged_falls flags offset length o = let at = cleared_at flags offset length o in grind (arith, nat_tests)
 
 -- Write-once is a kind: no flag is ever set.

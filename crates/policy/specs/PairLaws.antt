@@ -1,4 +1,4 @@
--- That a pair of policies is a policy. Like those of the kinds, this proof is a value that the trait takes.
+-- That a pair of policies is a policy. Like the proofs for kinds, this one is a value that the trait takes.
 use Rattle.std.specs.Prelude.{◌≡◌, ◌-◌, ◌≤◌}
 use Rattle.std.proofs.Common.{arith}
 use Rattle.policy.specs.Laws.{permitted_means}

@@ -1,21 +1,21 @@
 -- Any two policies side by side.
 --
---   shown         the regions of two policies, one after the other
---   pair_opens    what is open in a pair
---   pair_count    how many regions it shows
---   pair_after    what a write makes of it
---   pair_means    these three together
---   SideBySide    which regions a pair shows, as what, and where a write goes
+--   joint_openness   what is open in the regions of two policies, one after the other
+--   pair_opens       what is open in a pair
+--   pair_count       how many regions it shows
+--   pair_after       what a write makes of it
+--   pair_means       these three together
+--   SideBySide       which regions a pair shows, as what, and where a write goes
 use Rattle.std.specs.Prelude.{◌≡◌, ℕ, ◌+◌, ◌-◌, ◌<◌, ◌≤◌, min, Bool, false, if◌then◌else◌, nat_lt}
 use Rattle.policy.specs.Policies.{Meaning}
 
 -- The regions of a first policy, `count` in number, then those of a second, up to region 15; from there up nothing is open.
-abbrev pub shown : ℕ → (ℕ → ℕ → Bool) → (ℕ → ℕ → Bool) → ℕ → ℕ → Bool
-shown count first second region = if nat_lt region count then first region else (if nat_lt region 16 then second (region - count) else (λ _. false))
+abbrev pub joint_openness : ℕ → (ℕ → ℕ → Bool) → (ℕ → ℕ → Bool) → ℕ → ℕ → Bool
+joint_openness count first second region = if nat_lt region count then first region else (if nat_lt region 16 then second (region - count) else (λ _. false))
 
 -- A pair shows the regions of its two policies so.
 abbrev pub pair_opens : {A B : Type 0} → Meaning A → Meaning B → A × B → ℕ → ℕ → Bool
-pair_opens a b pair = shown (a.count pair.0) (a.opens pair.0) (b.opens pair.1)
+pair_opens a b pair = joint_openness (a.count pair.0) (a.opens pair.0) (b.opens pair.1)
 
 -- The regions of both, 16 at most.
 abbrev pub pair_count : {A B : Type 0} → Meaning A → Meaning B → A × B → ℕ

@@ -1,13 +1,14 @@
-// The kind that is written from front to back.
+// A policy of one region that is written from front to back.
 
 ghost use Rattle.std.specs.Prelude.{◌≡◌, ℕ, ◌+◌};
-ghost use Rattle.policy.specs.Kinds.{alone, kind_after, kind_means, kind_opens, left_open, one_region, append_only_close, append_only_closes, append_only_openness, append_only_opens, below};
+ghost use Rattle.policy.specs.Kinds.{alone, append_only_closes, append_only_means, append_only_opens, below, Closes};
 ghost use Rattle.policy.specs.Laws.{kind_laws, append_only_facts};
 
 use crate::span::Span;
 use crate::traits::Policy;
 
-// One region: a write closes every offset below its end.
+/// Append-only: one region, number 0. A write closes every offset below its end, so each byte is written once, and none in front
+/// of one that was written.
 #[derive(Drop)]
 pub struct AppendOnly {
     // The offsets below it are closed.
@@ -15,7 +16,7 @@ pub struct AppendOnly {
 }
 
 impl AppendOnly {
-    // All offsets are open.
+    /// All 65,536 offsets are open.
     pub fn new() -> AppendOnly
         ensures starts { (region offset : ℕ) → append_only_opens result region offset ≡ alone (below 65536) region offset }
     {
@@ -24,7 +25,7 @@ impl AppendOnly {
 }
 
 impl Policy for AppendOnly {
-    ghost means = { kind_means append_only_openness append_only_close };
+    ghost means = { append_only_means };
 
     ghost laws = { kind_laws append_only_facts };
 
@@ -37,11 +38,11 @@ impl Policy for AppendOnly {
         region == 0 && self.mark <= span.offset()
     }
 
-    #[tactic(auto, using(crate::proofs::Permitting::append_only_left, crate::specs::Laws::permitted_alone))]
+    #[tactic(auto, using(crate::proofs::Permitting::append_only_told, crate::specs::Laws::permitted_alone))]
     fn told(&mut self, region: u64, span: Span)
-        ensures after { self.new ≡ kind_after append_only_openness append_only_close self.old region span.offset span.length }
-        ensures same { one_region self.new ≡ one_region self.old }
-        ensures closes { (r o : ℕ) → kind_opens append_only_openness self.new r o ≡ left_open (append_only_closes span.offset span.length) (kind_opens append_only_openness self.old) region span.offset span.length r o }
+        ensures after { self.new ≡ append_only_means.after self.old region span.offset span.length }
+        ensures same { append_only_means.count self.new ≡ append_only_means.count self.old }
+        ensures closes { Closes append_only_means append_only_closes self.old self.new region span.offset span.length }
     {
         if self.permits(region, span) {
             self.mark = span.end();

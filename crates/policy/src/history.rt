@@ -5,14 +5,14 @@ ghost use Rattle.policy.specs.Histories.{History};
 use crate::span::Span;
 use crate::traits::Policy;
 
-// A write as a policy is told of it.
+/// A write as a policy is told of it: the region's number and the bytes in it.
 #[derive(Clone, Copy, Debug, PartialEq, Eq)]
 pub struct Write {
     pub region: u64,
     pub span: Span,
 }
 
-// Tells the policy of writes, in their order. At every point of such a history, what was closed before is closed.
+/// Tells the policy of writes, in their order. At every point of such a history, what was closed before is closed.
 pub fn tell_all<P: Policy>(policy: &mut P, writes: &[Write])
     ensures { History P.means policy.old writes.now policy.new }
 {

@@ -1,4 +1,4 @@
-// Write policies: which bytes of a protected region may still be written.
+//! Write policies: which bytes of a protected region may still be written.
 
 #![tactic(auto)]
 

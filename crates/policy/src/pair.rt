@@ -12,7 +12,7 @@ use std::marker::Model;
 // No policy shows more regions.
 const MOST_REGIONS: u64 = REGIONS as u64;
 
-// Two policies as one: the second's regions follow the first's.
+/// Two policies as one: the second's regions follow the first's, up to 16 in all.
 #[derive(Drop)]
 pub struct Pair<A, B> {
     first: A,
@@ -26,7 +26,7 @@ impl<A, B> Model for Pair<A, B> {
 }
 
 impl<A: Policy, B: Policy> Pair<A, B> {
-    // The two side by side.
+    /// The two side by side.
     pub fn new(first: A, second: B) -> Pair<A, B>
         ensures same { result ≡ (first, second) }
         ensures shows { SideBySide A.Policy.means B.Policy.means result }

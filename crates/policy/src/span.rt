@@ -6,7 +6,7 @@ ghost use Rattle.policy.specs.Spans.{span_of};
 
 use frames::numbers::OFFSETS;
 
-// Some of a region's offsets, one or more, that lie one behind the other.
+/// Some of a region's offsets, one or more, that lie one behind the other. Both fields count bytes.
 #[derive(Clone, Copy, Debug, PartialEq, Eq)]
 pub struct Span {
     pub offset: u64,
@@ -16,7 +16,7 @@ pub struct Span {
 }
 
 impl Span {
-    // The span, or nothing where the two make none. No sum is formed that could wrap.
+    /// The span, or nothing where the two make none: a length of 0, or an end past 65,536. No sum is formed that could wrap.
     pub fn new(offset: u64, length: u64) -> Option<Span>
         ensures { option_map (λ s. (s.offset, s.length)) result ≡ span_of offset length }
     {
@@ -26,14 +26,14 @@ impl Span {
         Some(Span { offset, length })
     }
 
-    // Its first offset. This call and the next are for those who would rather not name a field.
+    /// Its first offset: 0 to 65,535. This call and the next are for those who would rather not name a field.
     pub fn offset(self) -> u64
         ensures { result ≡ self.offset }
     {
         self.offset
     }
 
-    // How many offsets it has.
+    /// How many offsets it has: 1 to 65,536.
     pub fn length(self) -> u64
         ensures is { result ≡ self.length }
         ensures some { 1 ≤ result }
@@ -41,7 +41,7 @@ impl Span {
         self.length
     }
 
-    // The offset behind its last one.
+    /// The offset behind its last one: 1 to 65,536.
     pub fn end(self) -> u64
         ensures is { result ≡ self.offset + self.length }
         ensures inside { result ≤ 65536 }

@@ -1,20 +1,20 @@
-// The kind whose every offset is written once.
+// A policy of one region whose every offset is written once.
 
 ghost use Rattle.std.specs.Prelude.{◌≡◌, ℕ};
-ghost use Rattle.policy.specs.Kinds.{alone, kind_after, kind_means, kind_opens, left_open, one_region, below, flagged, write_once_close, write_once_openness, write_once_opens};
+ghost use Rattle.policy.specs.Kinds.{alone, below, Closes, write_once_means, write_once_opens};
 ghost use Rattle.policy.specs.Laws.{kind_laws, write_once_facts};
 ghost use Rattle.policy.specs.Spans.{covers};
 
 use crate::span::Span;
 use crate::traits::Policy;
 
-// A write-once region has so many offsets that can be written.
+/// A write-once region has so many offsets that can be written, from 0 up.
 pub const ONCE: u64 = 4096;
 
 // So many flags stand for them.
 const FLAGS: usize = ONCE as usize;
 
-// One region: a write closes its span.
+/// Write-once: one region, number 0. A write closes its span.
 #[derive(Drop)]
 pub struct WriteOnce {
     // The offsets that have not been written yet.
@@ -22,8 +22,8 @@ pub struct WriteOnce {
 }
 
 impl WriteOnce {
-    // The offsets below 4,096 are open.
-    #[tactic(auto, using(crate::proofs::Flags::all_set))]
+    /// The offsets below 4,096 are open, all others closed.
+    #[tactic(auto, using(crate::proofs::Flags::flags_set))]
     pub fn new() -> WriteOnce
         ensures starts { (region offset : ℕ) → write_once_opens result region offset ≡ alone (below 4096) region offset }
     {
@@ -34,7 +34,7 @@ impl WriteOnce {
 }
 
 impl Policy for WriteOnce {
-    ghost means = { kind_means write_once_openness write_once_close };
+    ghost means = { write_once_means };
 
     ghost laws = { kind_laws write_once_facts };
 
@@ -49,11 +49,11 @@ impl Policy for WriteOnce {
             && !self.fresh[span.offset() as usize..span.end() as usize].contains(&false)
     }
 
-    #[tactic(auto, using(crate::proofs::Permitting::write_once_left, crate::specs::Laws::permitted_alone, crate::proofs::Flags::inside, crate::proofs::Flags::filled))]
+    #[tactic(auto, using(crate::proofs::Permitting::write_once_told, crate::specs::Laws::permitted_alone, crate::proofs::Flags::inside, crate::proofs::Flags::fill_clears))]
     fn told(&mut self, region: u64, span: Span)
-        ensures after { self.new ≡ kind_after write_once_openness write_once_close self.old region span.offset span.length }
-        ensures same { one_region self.new ≡ one_region self.old }
-        ensures closes { (r o : ℕ) → kind_opens write_once_openness self.new r o ≡ left_open (covers span.offset span.length) (kind_opens write_once_openness self.old) region span.offset span.length r o }
+        ensures after { self.new ≡ write_once_means.after self.old region span.offset span.length }
+        ensures same { write_once_means.count self.new ≡ write_once_means.count self.old }
+        ensures closes { Closes write_once_means covers self.old self.new region span.offset span.length }
     {
         if self.permits(region, span) {
             self.fresh[span.offset() as usize..span.end() as usize].fill(false);
