@@ -1,4 +1,4 @@
 -- Lemmas of this crate.
 pub mod Flags
 pub mod Permitting
-mod Telling
+pub mod Telling

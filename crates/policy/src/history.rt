@@ -13,6 +13,7 @@ pub struct Write {
 }
 
 /// Tells the policy of writes, in their order. At every point of such a history, what was closed before is closed.
+#[tactic(auto, using(crate::proofs::Telling::none_told, crate::proofs::Telling::all_told))]
 pub fn tell_all<P: Policy>(policy: &mut P, writes: &[Write])
     ensures { History P.means policy.old writes.now policy.new }
 {
