@@ -25,13 +25,16 @@ permitted_none offset zero = refl
 permitted_none offset (suc n) = and-false (is_span offset (suc n))
 
 -- What a write closes in a kind.
-kind_closes : {Self : Type 0} {openness : Self → ℕ → Bool} {closes : ℕ → ℕ → ℕ → Bool} {close : Self → ℕ → ℕ → Self} → IsKind openness closes close → (old new : Self) (region offset length : ℕ) → new ≡ kind_after openness close old region offset length
+kind_closes : {Self : Type 0} {openness : Self → ℕ → Bool} {closes : ℕ → ℕ → ℕ → Bool} {close : Self → ℕ → ℕ → Self}
+    → IsKind openness closes close → (old new : Self) (region offset length : ℕ) → new ≡ kind_after openness close old region offset length
     → Closes (kind_means openness close) closes old new region offset length
 kind_closes {openness = openness} {close = close} kind old new region offset length is r o =
     ap (λ x. kind_opens openness x r o) is ∙ grind (arith, nat_tests, permitted_alone, kind.leaves)
 
-pub append_only_told : (old new : AppendOnly) (region offset length : ℕ) → new ≡ append_only_means.after old region offset length → Closes append_only_means append_only_closes old new region offset length
+pub append_only_told : (old new : AppendOnly) (region offset length : ℕ) → new ≡ append_only_means.after old region offset length
+    → Closes append_only_means append_only_closes old new region offset length
 append_only_told = kind_closes append_only_facts
 
-pub write_once_told : (old new : WriteOnce) (region offset length : ℕ) → new ≡ write_once_means.after old region offset length → Closes write_once_means covers old new region offset length
+pub write_once_told : (old new : WriteOnce) (region offset length : ℕ) → new ≡ write_once_means.after old region offset length
+    → Closes write_once_means covers old new region offset length
 write_once_told = kind_closes write_once_facts

@@ -13,7 +13,9 @@ after_all m policy writes = fold (λ p w. m.after p w.region w.span.offset w.spa
 
 -- An offset that is closed after some writes, whichever they are, is closed after these and any others.
 abbrev pub ClosedForGood : {P : Type 0} → Meaning P → P → Type 0
-ClosedForGood m policy = (earlier later : List Write) (region offset : ℕ) → m.opens (after_all m policy earlier) region offset ≡ false → m.opens (after_all m policy (earlier ++ later)) region offset ≡ false
+ClosedForGood m policy = (earlier later : List Write) (region offset : ℕ) →
+    m.opens (after_all m policy earlier) region offset ≡ false →
+    m.opens (after_all m policy (earlier ++ later)) region offset ≡ false
 
 -- A policy was told of writes, from a first state of it to a last.
 pub record History {P : Type 0} (m : Meaning P) (first : P) (writes : List Write) (last : P) : Type 0 where

@@ -1,4 +1,4 @@
--- Kinds, policies of a single region: what makes one, and the three that there are: what each starts with, and what a write closes.
+-- Kinds, policies of a single region: what makes one, and the three that there are, what each starts with and what a write closes.
 --
 --   alone                       a kind governs region 0 and no other
 --   kind_opens                  what it has open
@@ -11,8 +11,8 @@
 --   below, open_from            the offsets below one, and those from one up
 --   is_flagged, flags_without   flags for the offsets, and clearing those of a span
 --   write_once_openness, write_once_close, write_once_opens, write_once_means
---                               write-once: what is open in region 0, what a write makes of it, what is open in all regions, and
---                               what it means
+--                               write-once: what is open in region 0, what a write makes of it, what is open in all
+--                               regions, and what it means
 --   append_only_openness, append_only_close, append_only_closes, append_only_opens, append_only_means
 --                               append-only, and which offsets a write closes
 --   free_openness, free_close, free_closes, free_opens, free_means
@@ -37,7 +37,8 @@ one_region _ = 1
 
 -- A write that is permitted changes a kind as `close` says, any other leaves it as it was.
 abbrev pub kind_after : {Self : Type 0} → (Self → ℕ → Bool) → (Self → ℕ → ℕ → Self) → Self → ℕ → ℕ → ℕ → Self
-kind_after openness close kind region offset length = if permitted (kind_opens openness kind region) offset length then close kind offset length else kind
+kind_after openness close kind region offset length =
+    if permitted (kind_opens openness kind region) offset length then close kind offset length else kind
 
 -- What a kind means.
 abbrev pub kind_means : {Self : Type 0} → (Self → ℕ → Bool) → (Self → ℕ → ℕ → Self) → Meaning Self
@@ -45,11 +46,13 @@ kind_means openness close = record { opens = kind_opens openness; count = one_re
 
 -- What is open after a write: what was, less what a permitted write closes in its region.
 abbrev pub open_after : (ℕ → Bool) → (ℕ → ℕ → Bool) → ℕ → ℕ → ℕ → ℕ → ℕ → Bool
-open_after closes opens region offset length r o = if permitted (opens region) offset length && (r == region && closes o) then false else opens r o
+open_after closes opens region offset length r o =
+    if permitted (opens region) offset length && (r == region && closes o) then false else opens r o
 
--- Of these regions a write closes what `closes` says of its offset and length, where it was permitted, and nothing else.
+-- Where a write was permitted, it closed in its region what `closes` says of its offset and length, and nothing else anywhere.
 abbrev pub Closes : {Self : Type 0} → Meaning Self → (ℕ → ℕ → ℕ → Bool) → Self → Self → ℕ → ℕ → ℕ → Type 0
-Closes m closes old new region offset length = (r o : ℕ) → m.opens new r o ≡ open_after (closes offset length) (m.opens old) region offset length r o
+Closes m closes old new region offset length =
+    (r o : ℕ) → m.opens new r o ≡ open_after (closes offset length) (m.opens old) region offset length r o
 
 -- What makes a kind, told by which offsets are open (`openness`), which of them a permitted write closes, by its
 -- offset and length (`closes`), and what such a write makes of the kind (`close`).
@@ -57,7 +60,8 @@ pub record IsKind {Self : Type 0} (openness : Self → ℕ → Bool) (closes : �
   -- What lies past the 65,536 offsets is closed.
   pub ends : (kind : Self) (o : ℕ) → 65536 ≤ o → openness kind o ≡ false
   -- A permitted write leaves open what was, less what it closes.
-  pub leaves : (kind : Self) (offset length o : ℕ) → permitted (openness kind) offset length ≡ true → openness (close kind offset length) o ≡ (if closes offset length o then false else openness kind o)
+  pub leaves : (kind : Self) (offset length o : ℕ) → permitted (openness kind) offset length ≡ true →
+      openness (close kind offset length) o ≡ (if closes offset length o then false else openness kind o)
 
 -- The offsets below an end.
 abbrev pub below : ℕ → ℕ → Bool

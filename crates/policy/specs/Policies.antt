@@ -39,12 +39,17 @@ pub record Lawful {Self : Type 0} (m : Meaning Self) : Type 0 where
   -- and so is whatever lies past a region's 65,536 offsets.
   pub wide : (policy : Self) (region offset : ℕ) → 65536 ≤ offset → m.opens policy region offset ≡ false
   -- It says yes exactly to a span each of whose offsets is open.
-  pub yes : (policy : Self) (region offset length : ℕ) → IsTrue (permitted (m.opens policy region) offset length) ↔ (IsTrue (is_span offset length) × Throughout (m.opens policy region) offset length)
+  pub yes : (policy : Self) (region offset length : ℕ) →
+      IsTrue (permitted (m.opens policy region) offset length)
+      ↔ (IsTrue (is_span offset length) × Throughout (m.opens policy region) offset length)
   -- A write leaves the count as it was.
   pub same : (policy : Self) (region offset length : ℕ) → m.count (m.after policy region offset length) ≡ m.count policy
   -- A write to which it would have said no alters nothing.
-  pub refused : (policy : Self) (region offset length : ℕ) → permitted (m.opens policy region) offset length ≡ false → m.after policy region offset length ≡ policy
+  pub refused : (policy : Self) (region offset length : ℕ) → permitted (m.opens policy region) offset length ≡ false →
+      m.after policy region offset length ≡ policy
   -- A write alters no other region.
-  pub others : (policy : Self) (region offset length other o : ℕ) → other ≢ region → m.opens (m.after policy region offset length) other o ≡ m.opens policy other o
+  pub others : (policy : Self) (region offset length other o : ℕ) → other ≢ region →
+      m.opens (m.after policy region offset length) other o ≡ m.opens policy other o
   -- Closed stays closed.
-  pub closed : (policy : Self) (region offset length r o : ℕ) → m.opens policy r o ≡ false → m.opens (m.after policy region offset length) r o ≡ false
+  pub closed : (policy : Self) (region offset length r o : ℕ) → m.opens policy r o ≡ false →
+      m.opens (m.after policy region offset length) r o ≡ false

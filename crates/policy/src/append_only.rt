@@ -7,8 +7,8 @@ ghost use Rattle.policy.specs.Laws.{kind_laws, append_only_facts};
 use crate::span::Span;
 use crate::traits::Policy;
 
-/// Append-only: one region, number 0. A write closes every offset below its end, so each byte is written once, and none in front
-/// of one that was written.
+/// Append-only: one region, number 0. A write closes every offset below its end, so what lies below the end of
+/// one is never written again.
 #[derive(Drop)]
 pub struct AppendOnly {
     // The offsets below it are closed.

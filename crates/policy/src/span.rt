@@ -16,7 +16,8 @@ pub struct Span {
 }
 
 impl Span {
-    /// The span, or nothing where the two make none: a length of 0, or an end past 65,536. No sum is formed that could wrap.
+    /// The span, or nothing where the two make none: where the length is 0, or the end past 65,536.
+    // No sum is formed that could wrap.
     pub fn new(offset: u64, length: u64) -> Option<Span>
         ensures { option_map (λ s. (s.offset, s.length)) result ≡ span_of offset length }
     {

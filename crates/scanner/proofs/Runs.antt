@@ -17,16 +17,21 @@ unfolding feed_all
 left_more t all i low = ap (feed_all t) (drop_more all i 0 low)
 
 -- so it is with that byte's answer and the state after it
-fed_on : (t u : State) (all : List ℕ) (i : ℕ) (r : Bool) (c : ByteClass) → (r, u) ≡ step t c → c ≡ class_of (get_or all i 0) → i < length all → and_then (r, u) (drop (i + 1) all) ≡ feed_all t (drop i all)
+fed_on : (t u : State) (all : List ℕ) (i : ℕ) (r : Bool) (c : ByteClass) → (r, u) ≡ step t c → c ≡ class_of (get_or all i 0) → i < length all
+    → and_then (r, u) (drop (i + 1) all) ≡ feed_all t (drop i all)
 fed_on t u all i r c given is low = ap (λ p. and_then p (drop (i + 1) all)) (given ∙ ap (step t) is) ∙ sym (left_more t all i low)
 
 -- A byte that completes nothing leaves the others,
-pub one_more : (s t u : State) (all : List ℕ) (i : ℕ) (r : Bool) (c : ByteClass) → feed_all t (drop i all) ≡ feed_all s all → (r, u) ≡ step t c → c ≡ class_of (get_or all i 0) → i < length all → r ≡ true → feed_all u (drop (i + 1) all) ≡ feed_all s all
+pub one_more : (s t u : State) (all : List ℕ) (i : ℕ) (r : Bool) (c : ByteClass)
+    → feed_all t (drop i all) ≡ feed_all s all → (r, u) ≡ step t c → c ≡ class_of (get_or all i 0) → i < length all → r ≡ true
+    → feed_all u (drop (i + 1) all) ≡ feed_all s all
 one_more s t u all i r c left given is low passed =
     ap (λ x. and_then (x, u) (drop (i + 1) all)) (sym passed) ∙ fed_on t u all i r c given is low ∙ left
 
 -- one that completes a sequence is the last,
-pub refusal : (s t u : State) (all : List ℕ) (i : ℕ) (r answer : Bool) (c : ByteClass) → feed_all t (drop i all) ≡ feed_all s all → (r, u) ≡ step t c → c ≡ class_of (get_or all i 0) → i < length all → r ≡ false → answer ≡ false → Fed s all answer u
+pub refusal : (s t u : State) (all : List ℕ) (i : ℕ) (r answer : Bool) (c : ByteClass)
+    → feed_all t (drop i all) ≡ feed_all s all → (r, u) ≡ step t c → c ≡ class_of (get_or all i 0) → i < length all → r ≡ false → answer ≡ false
+    → Fed s all answer u
 refusal s t u all i r answer c left given is low failed told =
     fed s all answer u (ap (λ x. (x, u)) told ∙ ap (λ x. and_then (x, u) (drop (i + 1) all)) (sym failed) ∙ fed_on t u all i r c given is low ∙ left)
 

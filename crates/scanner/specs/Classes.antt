@@ -9,7 +9,9 @@ use Rattle.scanner.specs.declared.classes.ByteClass.TheVariants.{Other, Lead, Wr
 
 -- 0F, a byte that writes after it, 01, a byte that loads after 0F 01, or any other
 abbrev pub class_of : ℕ → ByteClass
-class_of b = if lead b then Lead else (if writes b then Writes else (if group b then Group else (if loads b then Loads else Other)))
+class_of b =
+    if lead b then Lead
+    else (if writes b then Writes else (if group b then Group else (if loads b then Loads else Other)))
 
 -- 1 for 0F, 2 for a byte that writes after it, 3 for 01, 4 for a byte that loads after 0F 01, else 0
 abbrev pub number_of : ByteClass → ℕ

@@ -36,7 +36,8 @@ step s c = if forbids s c then (false, s) else (true, next s c)
 
 -- the class c stands for the byte b: in each state, and whatever follows, the step by c keeps the rule's answer
 abbrev pub Stands : ℕ → ByteClass → Type 0
-Stands b c = (s : State) (xs : List ℕ) → passing (seen s ++ (b ∷ xs)) ≡ ((step s c).0 && passing (seen (step s c).1 ++ xs))
+Stands b c = (s : State) (xs : List ℕ) →
+    passing (seen s ++ (b ∷ xs)) ≡ ((step s c).0 && passing (seen (step s c).1 ++ xs))
 
 -- a run of bytes: whether all went on, and the state after the last that was fed
 unfoldable pub feed_all : State → List ℕ → Bool × State

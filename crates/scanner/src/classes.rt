@@ -95,7 +95,8 @@ pub fn class(byte: u8) -> ByteClass
     table()[byte as usize]
 }
 
-// The table, which is the rule of the classes computed at every byte. A wrong entry is found here, a wrong place in `class`.
+// The table, which is the rule of the classes computed at every byte. A wrong entry is found here, and a wrong place in
+// `class`.
 fn table() -> &'static [ByteClass; 256]
     ensures { result.now ≡ map class_of (range_with_len 0 256) }
 {
