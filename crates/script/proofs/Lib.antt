@@ -1,5 +1,4 @@
 pub mod Lines
-pub mod Standing
 pub mod Places
 pub mod Frames
 pub mod Told
