@@ -8,7 +8,7 @@
 --   call_text, copied_text              what is printed of the first four, and of the words
 --   made_text, parts_text               and of making a machine, and of the parts of an address
 --
--- Made of: `frames_shown`, `memory_of`, `refused_text`.
+-- Made of: `frames_shown`, `means_of`, `refused_text`.
 use Rattle.std.specs.Prelude.{⊤, ℕ, ◌/◌, true, cond, List, [], ◌++◌, ◌==◌, length, replicate, Some, None, codes, decimal, Option}
 use Rattle.memory.specs.Memories as memory
 use Rattle.memory.specs.Memories.{Beside}
@@ -52,12 +52,12 @@ abbrev pub frames_shown : List ℕ → ℕ
 frames_shown ws = length ws / 512
 
 -- the meaning of a memory of these words, and of what stands beside them
-abbrev pub memory_of : List ℕ → Beside → memory.Meaning ⊤
-memory_of ws beside = record { words = λ _. ws; size = λ _. frames_shown ws; beside = λ _. beside }
+abbrev pub means_of : List ℕ → Beside → memory.Meaning ⊤
+means_of ws beside = record { words = λ _. ws; size = λ _. frames_shown ws; beside = λ _. beside }
 
 -- a new machine over such a memory
 unfoldable pub new_machine : List ℕ → Beside → ℕ → ℕ → State Policies
-new_machine ws beside first count = new_state (memory_of ws beside) tt first count new_policies
+new_machine ws beside first count = new_state (means_of ws beside) tt first count new_policies
 
 -- the number of the first question that has a no
 unfoldable pub call_number : Request → State Policies → Option ℕ
