@@ -1,7 +1,7 @@
 // Kinds of frames, and levels of tables.
 
 ghost use Rattle.std.specs.Prelude.{◌≡◌, Some};
-ghost use Rattle.frames.specs.Kinds.{keeps_words, level_number, level_of, number_of};
+ghost use Rattle.frames.specs.Kinds.{can_be_taken, keeps_words, level_number, level_of, number_of};
 
 /// The level of a page table: an entry of a table of level 1 names a frame, and of any other a table one level lower.
 #[derive(Clone, Copy, Debug, PartialEq, Eq)]
@@ -59,6 +59,16 @@ pub enum FrameKind {
 }
 
 impl FrameKind {
+    /// Whether a region can be made of such a frame.
+    pub fn can_be_taken(self) -> bool
+        ensures { result ≡ can_be_taken (Some self) }
+    {
+        match self {
+            FrameKind::Plain | FrameKind::Reserve => true,
+            FrameKind::Table(_) | FrameKind::Region | FrameKind::Code | FrameKind::Log => false,
+        }
+    }
+
     /// Whether a journal gives the words of such a frame: of a table, and of one that is or was a region's.
     pub fn keeps_words(self) -> bool
         ensures { result ≡ keeps_words (Some self) }

@@ -6,7 +6,7 @@ mod accesses;
 pub mod calls;
 mod changes;
 mod drains;
-pub mod framed;
+mod framed;
 pub mod guarded;
 pub mod packed;
 mod questions;

@@ -19,10 +19,7 @@ impl<M: Memory> GuardedMemory<M> {
     fn is_free(&self, frame: u64) -> bool
         ensures { result ≡ can_be_taken (kind_of self.now frame) }
     {
-        matches!(
-            self.kind(frame),
-            Some(FrameKind::Plain | FrameKind::Reserve)
-        )
+        self.kind(frame).is_some_and(FrameKind::can_be_taken)
     }
 
     /// Whether each of so many frames from a first one on is plain or reserve.

@@ -19,7 +19,7 @@ use text::printing::Hexadecimal;
 // Sixteen frames, of which the last is the log.
 const FRAMES: usize = 16;
 
-const FRAME_WORDS: usize = 512;
+const FRAME_WORDS: usize = memory::traits::FRAME_WORDS as usize;
 
 const FIGURES: LogFigures = LogFigures {
     frames: FRAMES as u64,
