@@ -19,7 +19,11 @@ level_number Four = 4
 
 -- The level of that number; there is none but 1 to 4.
 abbrev pub level_of : ℕ → Option Level
-level_of n = cond (n == 1) (Some One) (cond (n == 2) (Some Two) (cond (n == 3) (Some Three) (cond (n == 4) (Some Four) None)))
+level_of n =
+    cond (n == 1) (Some One)
+    (cond (n == 2) (Some Two)
+    (cond (n == 3) (Some Three)
+    (cond (n == 4) (Some Four) None)))
 
 -- The number of a kind, 0 to 8; that of a table is the number of its level.
 abbrev pub number_of : FrameKind → ℕ

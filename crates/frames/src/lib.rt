@@ -1,4 +1,5 @@
-//! What frames are: their kinds, the levels of page tables, regions, the figures of a machine's frames, and the subject's numbers.
+//! What frames are: their kinds, the levels of page tables, regions, the figures of a machine's frames, and the
+//! subject's numbers.
 
 #![tactic(auto)]
 

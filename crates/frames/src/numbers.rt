@@ -1,4 +1,5 @@
-// The subject's numbers, each of which stands here alone. The words of a frame and the most frames of a memory stand beside its trait.
+// The subject's numbers, each of which stands here alone. The words of a frame and the most frames of a memory stand
+// beside the trait of memories.
 
 use memory::traits::FRAME_WORDS;
 

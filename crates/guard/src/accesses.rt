@@ -38,7 +38,8 @@ impl<M: Memory> GuardedMemory<M> {
     ) -> Result<(), AccessFault>
         ensures number { refusal fault_number result ≡ first_no (access_questions self.old.picture.words root address Store) }
         ensures ends { fault_in result ≡ fault_in (translated self.old.picture.words root address Store) }
-        ensures after { self.new ≡ with_picture self.old (with_words self.old.picture (cond (is_ok result) (stored self.old.picture.words root address value) self.old.picture.words)) }
+        ensures after { let words = self.old.picture.words in
+            self.new ≡ with_picture self.old (with_words self.old.picture (cond (is_ok result) (stored words root address value) words)) }
     {
         let index = translate(self.framed.memory(), root, address, Access::Store)?;
         self.framed.write(index, value);

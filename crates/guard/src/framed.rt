@@ -24,14 +24,22 @@ impl<M: Memory> Model for Framed<M> {
 
     ghost Value = { Frames };
 
-    ghost view = { λ f. record { words = M.means.words f.memory; kinds = take f.count (kinds_of f.table); beside = M.means.beside f.memory } };
+    ghost view = { λ f. record {
+      words = M.means.words f.memory;
+      kinds = take f.count (kinds_of f.table);
+      beside = M.means.beside f.memory;
+    } };
 }
 
 impl<M: Memory> Framed<M> {
     /// A memory whose frames are all plain.
     #[tactic(auto, using(crate::proofs::Tables::plain_kinds))]
     pub fn new(memory: M) -> Framed<M>
-        ensures { result ≡ record { words = M.means.words memory; kinds = replicate (M.means.size memory) Plain; beside = M.means.beside memory } }
+        ensures { result ≡ record {
+          words = M.means.words memory;
+          kinds = replicate (M.means.size memory) Plain;
+          beside = M.means.beside memory;
+        } }
     {
         let count = memory.frames() as u16;
         Framed {

@@ -67,7 +67,8 @@ fn is_clear<M: Memory>(memory: &M, table: u64, sought: Sought) -> bool
 fn scan_word<M: Memory>(memory: &M, frame: u64, index: u64, scanner: &mut Scanner) -> bool
     requires frame { frame < 256 }
     requires index { index < 512 }
-    ensures { left_to_scan (M.means.words memory.now) frame index scanner.old ≡ (result && left_to_scan (M.means.words memory.now) frame (index + 1) scanner.new) }
+    ensures { left_to_scan (M.means.words memory.now) frame index scanner.old
+        ≡ (result && left_to_scan (M.means.words memory.now) frame (index + 1) scanner.new) }
 {
     let Entry(word) = entry_of(memory, frame, index);
     scanner.feed_word(word).is_ok()
@@ -99,7 +100,8 @@ impl<M: Memory> GuardedMemory<M> {
     // Whether a frame is a table of that level and has an entry that is looked for.
     fn holds(&self, frame: u64, level: Level, sought: Sought) -> bool
         requires { frame < 256 }
-        ensures { result ≡ (is_table_of level (slice_get self.now.picture.kinds frame) && not (clear_table (self.now.picture.words) sought frame 512)) }
+        ensures { let kind = slice_get self.now.picture.kinds frame in
+            result ≡ (is_table_of level kind && not (clear_table self.now.picture.words sought frame 512)) }
     {
         self.is_table_of(frame, level) && !is_clear(self.framed.memory(), frame, sought)
     }

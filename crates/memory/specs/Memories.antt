@@ -28,12 +28,13 @@ behind size list = drop (size * frames_in size list) list
 abbrev pub word_at : List ℕ → ℕ → Option ℕ
 word_at list index = cond (nat_lt index (length list)) (Some (slice_index list index)) None
 
--- A list with `n` items to a word after a write of one word, which `put` puts into it: only a word that is shown is replaced.
+-- A list with `n` items to a word after a write of one word, which `put` puts into it: only a word that is shown is
+-- replaced.
 abbrev pub written : {Item : Type 0} → ℕ → (List Item → ℕ → ℕ → List Item) → List Item → ℕ → ℕ → List Item
 written n put list index value = cond (nat_lt index (512 * frames_in (512 * n) list)) (put list index value) list
 
--- What stands beside the words of a memory, which no call changes: what lies behind the frames that it shows in each list that it
--- was lent or owns, and the names of the loans.
+-- What stands beside the words of a memory, which no call changes: what lies behind the frames that it shows in each list
+-- that it was lent or owns, and the names of the loans.
 pub record Beside : Type 0 where
   pub rest : List (List ℕ)
   pub loans : List ℕ
@@ -49,7 +50,8 @@ pub record Meaning (Self : Type 0) : Type 0 where
   pub beside : Self → Beside
 
 -- What whatever holds a list of items means, n to a word.
-abbrev pub list_means : {Item Self : Type 0} → ℕ → (List Item → List ℕ) → (List Item → List ℕ) → (Self → List Item) → (Self → List ℕ) → Meaning Self
+abbrev pub list_means : {Item Self : Type 0} → ℕ → (List Item → List ℕ) → (List Item → List ℕ) → (Self → List Item)
+    → (Self → List ℕ) → Meaning Self
 list_means n words numbers list loans = record {
   words = λ m. words (list m);
   size = λ m. frames_in (512 * n) (list m);
