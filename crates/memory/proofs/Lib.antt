@@ -2,3 +2,4 @@
 pub mod Bytewise
 pub mod Zeros
 mod Chunks
+mod Puts

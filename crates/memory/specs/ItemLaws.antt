@@ -7,8 +7,42 @@ use Rattle.std.proofs.lemmas.Grind.{same_number_lists}
 use Rattle.std.proofs.lemmas.List.{places, length-set, get_or-set_same, get_or-set_other, drop-drop, drop-take}
 use Rattle.std.proofs.lemmas.Slice.{drop-put_mid, take-put_mid_below, between-put_mid}
 use Rattle.std.proofs.Math.Nat.{div-mul-le_self}
-use Rattle.memory.specs.Items.{IsItem, Shows, part}
+use Rattle.memory.specs.Items.{IsItem, Shows, laid, part}
 use Rattle.memory.specs.Memories.{behind, frames_in}
+
+-- A list with other items in the place of word i, wherever it has room for them.
+module _ {Item : Type 0} (n : ℕ) (list : List Item) (i : ℕ) (items : List Item) where
+  -- They stand in the middle of it.
+  laid_mid : laid n list i items ≡ put_mid (n * i) n list items
+  laid_mid = rw drop-drop refl
+
+  -- It is as long as before,
+  pub length-laid : length items ≡ n → n * i + n ≤ length list → length (laid n list i items) ≡ length list
+  length-laid long fits = search (rules, places)
+
+  -- the items of word i are those that were laid there,
+  pub part_laid : length items ≡ n → n * i + n ≤ length list → part n (laid n list i items) i ≡ items
+  part_laid long fits =
+      let size : n * i + n - n * i ≡ n = omega arith in
+      ap (λ l. take n (drop (n * i) l)) laid_mid
+      ∙ ap (λ m. take m (drop (n * i) (put_mid (n * i) n list items))) (sym size)
+      ∙ between-put_mid (n * i) n list items (n * i + n) (omega (arith, fits)) (long ∙ sym size)
+
+  -- those of any other word are as they were,
+  pub part_beside : (k : ℕ) → length items ≡ n → n * i + n ≤ length list → (k < i) ⊎ (i < k) → part n (laid n list i items) k ≡ part n list k
+  part_beside k long fits (inl below) =
+      let more : n * suc k ≤ n * i = mul-le-mul_left n below in
+      sym (drop-take (n * k) n (laid n list i items))
+      ∙ ap (λ l. drop (n * k) (take (n * k + n) l)) laid_mid
+      ∙ ap (drop (n * k)) (take-put_mid_below (n * i) n list items (n * k + n) (omega (arith, more)) (omega (arith, fits)))
+      ∙ drop-take (n * k) n list
+  part_beside k long fits (inr above) =
+      let more : n * suc i ≤ n * k = mul-le-mul_left n above in
+      ap (take n) (ap (drop (n * k)) laid_mid ∙ drop-put_mid (n * i) n list items (n * k) (omega (arith, more)) (omega (arith, fits)) long)
+
+  -- and so is what lies behind.
+  behind_laid : (end : ℕ) → length items ≡ n → n * i + n ≤ length list → n * i + n ≤ end → drop end (laid n list i items) ≡ drop end list
+  behind_laid end long fits past = ap (drop end) laid_mid ∙ drop-put_mid (n * i) n list items end past (omega (arith, fits)) long
 
 module _ {Item : Type 0} {n : ℕ} {word : List Item → ℕ} {items : ℕ → List Item} {nought : Item} {words : List Item → List ℕ} {put : List Item → ℕ → ℕ → List Item}
     (item : IsItem n word items nought words put) where
@@ -20,53 +54,31 @@ module _ {Item : Type 0} {n : ℕ} {word : List Item → ℕ} {items : ℕ → L
       let more : n * (i + 1) ≤ n * (length list / (512 * n) * 512) = mul-le-mul_left n under in
       omega (arith, whole, more)
 
-  -- A list is as long as before,
+  -- A list with a word put into it is as long as before,
   length-put : (list : List Item) (i w : ℕ) → i < 512 * frames_in (512 * n) list → length (put list i w) ≡ length list
-  length-put list i w inside =
-      let fits = room list i inside in
-      let long = item.long w in
-      ap length (item.lays list i w inside) ∙ search (rules, places)
+  length-put list i w inside = ap length (item.lays list i w inside) ∙ length-laid n list i (items w) (item.long w) (room list i inside)
 
-  -- so it shows as many frames,
+  -- so it shows as many frames.
   same : (list : List Item) (i w : ℕ) → i < 512 * frames_in (512 * n) list → frames_in (512 * n) (put list i w) ≡ frames_in (512 * n) list
   same list i w inside = ap (λ k. min (k / (512 * n)) 256) (length-put list i w inside)
-
-  -- The items in the place of word i were replaced.
-  replaced : (list : List Item) (i w : ℕ) → i < 512 * frames_in (512 * n) list → put list i w ≡ put_mid (n * i) n list (items w)
-  replaced list i w inside = item.lays list i w inside ∙ rw drop-drop refl
 
   -- What lies behind the frames is as it was.
   rest : (list : List Item) (i w : ℕ) → i < 512 * frames_in (512 * n) list → behind (512 * n) (put list i w) ≡ behind (512 * n) list
   rest list i w inside =
       let end : ℕ = 512 * n * frames_in (512 * n) list in
-      let fits = room list i inside in
       let more : n * suc i ≤ n * (512 * frames_in (512 * n) list) = mul-le-mul_left n inside in
       ap (λ k. drop (512 * n * k) (put list i w)) (same list i w inside)
-      ∙ ap (drop end) (replaced list i w inside)
-      ∙ drop-put_mid (n * i) n list (items w) end (omega (arith, more)) (omega (arith, fits)) (item.long w)
+      ∙ ap (drop end) (item.lays list i w inside)
+      ∙ behind_laid n list i (items w) end (item.long w) (room list i inside) (omega (arith, more))
 
   -- The items of word i are those that were put,
   part_put : (list : List Item) (i w : ℕ) → i < 512 * frames_in (512 * n) list → part n (put list i w) i ≡ items w
-  part_put list i w inside =
-      let fits = room list i inside in
-      let size : n * i + n - n * i ≡ n = omega arith in
-      ap (λ l. take n (drop (n * i) l)) (replaced list i w inside)
-      ∙ ap (λ m. take m (drop (n * i) (put_mid (n * i) n list (items w)))) (sym size)
-      ∙ between-put_mid (n * i) n list (items w) (n * i + n) (omega (arith, fits)) (item.long w ∙ sym size)
+  part_put list i w inside = ap (λ l. part n l i) (item.lays list i w inside) ∙ part_laid n list i (items w) (item.long w) (room list i inside)
 
   -- and those of any other word are as they were.
   part_kept : (list : List Item) (i w k : ℕ) → i < 512 * frames_in (512 * n) list → (k < i) ⊎ (i < k) → part n (put list i w) k ≡ part n list k
-  part_kept list i w k inside (inl below) =
-      let fits = room list i inside in
-      let more : n * suc k ≤ n * i = mul-le-mul_left n below in
-      sym (drop-take (n * k) n (put list i w))
-      ∙ ap (λ l. drop (n * k) (take (n * k + n) l)) (replaced list i w inside)
-      ∙ ap (drop (n * k)) (take-put_mid_below (n * i) n list (items w) (n * k + n) (omega (arith, more)) (omega (arith, fits)))
-      ∙ drop-take (n * k) n list
-  part_kept list i w k inside (inr above) =
-      let fits = room list i inside in
-      let more : n * suc i ≤ n * k = mul-le-mul_left n above in
-      ap (take n) (ap (drop (n * k)) (replaced list i w inside) ∙ drop-put_mid (n * i) n list (items w) (n * k) (omega (arith, more)) (omega (arith, fits)) (item.long w))
+  part_kept list i w k inside apart =
+      ap (λ l. part n l k) (item.lays list i w inside) ∙ part_beside n list i (items w) k (item.long w) (room list i inside) apart
 
   -- So the word that is put is the one shown there, and no other is altered.
   after : (list : List Item) (i w : ℕ) → i < 512 * frames_in (512 * n) list → w < 2 ^ 64 → words (put list i w) ≡ set (words list) i w

@@ -1,7 +1,8 @@
 -- That words are items of a memory.
-use Rattle.std.specs.Prelude.{◌≡◌, ℕ, suc, ◌+◌, ◌*◌, List, [], ◌∷◌, ◌++◌, take, drop, slice_index, slice_set, refl}
+use Rattle.std.specs.Prelude.{◌≡◌, ℕ, suc, ◌+◌, ◌*◌, ◌<◌, List, [], ◌∷◌, ◌++◌, take, drop, slice_index, slice_set, refl}
 use Rattle.std.proofs.Common.{sym, ap, ◌∙◌, arith}
-use Rattle.std.proofs.lemmas.List.{get_or-drop, get_or-take, length-take-le, set_split}
+use Rattle.std.proofs.Math.Seq.{take-set-lt}
+use Rattle.std.proofs.lemmas.List.{get_or-drop, get_or-take, length-set, length-take-le, set_split}
 use Rattle.memory.specs.Items.{IsItem, part, sole}
 use Rattle.memory.specs.Memories.{frames_in, shown}
 
@@ -25,3 +26,7 @@ word_facts = record {
       let past : 1 * i + 1 ≡ suc i = omega arith in
       set_split list i w (omega arith) ∙ ap (λ k. take k list ++ w ∷ drop (suc i) list) (sym at) ∙ ap (λ k. take (1 * i) list ++ w ∷ drop k list) (sym past);
 }
+
+-- A word that is put, of whatever size, is the one shown in its place.
+pub shown-set : (list : List ℕ) (i v : ℕ) → i < 512 * frames_in 512 list → shown (slice_set list i v) ≡ slice_set (shown list) i v
+shown-set list i v inside = simp length-set (take-set-lt (512 * frames_in 512 list) list i v inside)

@@ -34,7 +34,7 @@ fn get<T: Item<N>, const N: usize>(list: &[T], index: u64) -> u64
 }
 
 // Replaces a word that the list shows. Its items are found by their place: `as_chunks_mut` promises nothing of what the
-// list ends as.
+// list ends as. A single item is stored and not copied as a run, which would take three times the instructions.
 fn put<T: Item<N>, const N: usize>(list: &mut [T], index: u64, value: u64)
     requires { index < 512 * frames_in (512 * N) list.old }
     ensures list { list.new ≡ T.put list.old index value }
@@ -43,7 +43,10 @@ fn put<T: Item<N>, const N: usize>(list: &mut [T], index: u64, value: u64)
     ensures same { frames_in (512 * N) list.new ≡ frames_in (512 * N) list.old }
 {
     let at = N * index as usize;
-    list[at..at + N].copy_from_slice(&T::items(value));
+    match T::items(value).as_slice() {
+        [item] => list[at] = *item,
+        items => list[at..at + N].copy_from_slice(items),
+    }
 }
 
 /// The word at the index, or nothing where the list shows none.
