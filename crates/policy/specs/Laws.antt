@@ -41,18 +41,28 @@ permitted_where false openness offset (suc n) = and-false (is_span offset (suc n
 pub permitted_alone : (openness : ℕ → Bool) (region offset length : ℕ) → permitted (alone openness region) offset length ≡ (region == 0 && permitted openness offset length)
 permitted_alone openness region = permitted_where (region == 0) openness
 
--- A kind is a policy.
-pub kind_laws : {Self : Type 0} {openness : Self → ℕ → Bool} {closes : ℕ → ℕ → ℕ → Bool} {close : Self → ℕ → ℕ → Self} → IsKind openness closes close → Lawful (kind_means openness close)
-kind_laws {openness} kind = record {
+-- A policy of one region is lawful where what lies past the 65,536 offsets is closed, and a write that is permitted leaves closed
+-- what was.
+pub one_region_laws : {Self : Type 0} (openness : Self → ℕ → Bool) (close : Self → ℕ → ℕ → Self)
+    → (ends : (policy : Self) (o : ℕ) → 65536 ≤ o → openness policy o ≡ false)
+    → (keeps : (policy : Self) (offset length o : ℕ) → permitted (openness policy) offset length ≡ true → openness policy o ≡ false
+    → openness (close policy offset length) o ≡ false)
+    → Lawful (kind_means openness close)
+one_region_laws openness close ends keeps = record {
   few = λ _. omega arith;
   past = λ policy region o from. grind (arith, nat_tests);
   yes = λ policy region. permitted_means (kind_opens openness policy region);
-  wide = λ policy region o from. let end = kind.ends policy o from in grind (arith, nat_tests);
+  wide = λ policy region o from. let end = ends policy o from in grind (arith, nat_tests);
   same = λ _ _ _ _. refl;
   refused = λ policy region offset length e. grind (arith, nat_tests);
   others = λ policy region offset length other o differs. grind (arith, nat_tests, permitted_alone);
-  closed = λ policy region offset length r o shut. grind (arith, nat_tests, permitted_alone, kind.leaves);
+  closed = λ policy region offset length r o shut. grind (arith, nat_tests, permitted_alone, keeps);
 }
+
+-- A kind is a policy: what a write closes is closed, and all else is as it was.
+pub kind_laws : {Self : Type 0} {openness : Self → ℕ → Bool} {closes : ℕ → ℕ → ℕ → Bool} {close : Self → ℕ → ℕ → Self} → IsKind openness closes close → Lawful (kind_means openness close)
+kind_laws {openness} {closes} {close} kind = one_region_laws openness close kind.ends
+    (λ policy offset length o yes shut. let left = kind.leaves policy offset length o yes in grind (arith, nat_tests))
 
 -- There is nothing past the last offset.
 mark_ends : (mark o : ℕ) → 65536 ≤ o → open_from mark o ≡ false
