@@ -3,3 +3,4 @@ mod Hexadecimals
 mod Pairing
 mod Reading
 mod ReadingBack
+mod Writing
