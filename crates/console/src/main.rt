@@ -10,13 +10,19 @@ use std::{env, fs};
 // Each line is carried out and answered before the next is read.
 fn carry_out<R: Read + Drop>(rt: &HostRuntime, script: R) -> anyhow::Result<()> {
     let heap = rt.alloc();
-    let lines = BufReader::new(heap, script)?.split(heap, b'\n');
+    let mut lines = BufReader::new(heap, script)?;
     let mut output = rt.stdout();
     let mut session = Session::new();
+    let mut line = Vec::new(heap);
     let mut reply = Vec::new(heap);
-    for (number, line) in (1..).zip(lines) {
+    // One list for all lines: an iterator of lines would make one for each.
+    for number in 1.. {
+        line.clear();
+        if lines.read_until(b'\n', &mut line)? == 0 {
+            break;
+        }
         reply.clear();
-        session.line(heap, number, line?.as_slice(), &mut reply)?;
+        session.line(heap, number, line.as_slice(), &mut reply)?;
         output.write_all(reply.as_slice())?;
         output.flush()?;
     }
