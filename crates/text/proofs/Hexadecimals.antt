@@ -1,5 +1,6 @@
 -- The hexadecimal digits of numbers and bytes, as the library writes them.
-use Rattle.std.proofs.Common.{◌≡◌, ℕ, zero, suc, ◌+◌, get_or, set, take, drop, ◌*◌, false, length, ◌/◌, ◌%◌, ◌^◌, ◌<◌, true, List, [], ◌∷◌, ◌++◌, map, sym, ap, ◌∙◌, ⊎_elim, append_assoc, append-nil, arith}
+use Rattle.std.proofs.Common.{◌≡◌, ℕ, zero, suc, ◌+◌, ◌*◌, ◌/◌, ◌%◌, ◌^◌, ◌<◌, true, false, List, [], ◌∷◌, ◌++◌, length, map, get_or, set, take, drop}
+use Rattle.std.proofs.Common.{sym, ap, ◌∙◌, ⊎_elim, append_assoc, append-nil, arith}
 use Rattle.std.specs.Prelude.{codes, ◌==◌}
 use Rattle.std.specs.Simd.{first_chunks}
 use Rattle.std.specs.declared.fmt.Formatter.{Formatter}
@@ -44,7 +45,8 @@ written_in_full n small =
 
 -- the two digits of one more byte, put behind those of the first i
 pub one_more_put : (text bs : List ℕ) (i : ℕ) → i < length bs → 2 * i + 1 < length text → take (2 * i) text ≡ flat_map two_digits (take i bs)
-    → take (2 * (i + 1)) (set (set text (2 * i) (hex_digit (get_or bs i 0 / 16))) (2 * i + 1) (hex_digit (get_or bs i 0 % 16))) ≡ flat_map two_digits (take (i + 1) bs)
+    → take (2 * (i + 1)) (set (set text (2 * i) (hex_digit (get_or bs i 0 / 16))) (2 * i + 1) (hex_digit (get_or bs i 0 % 16)))
+    ≡ flat_map two_digits (take (i + 1) bs)
 one_more_put text bs i within room front =
     let high = hex_digit (get_or bs i 0 / 16) in
     let low = hex_digit (get_or bs i 0 % 16) in
@@ -75,7 +77,8 @@ one_more_run bs i =
 -- the digits of one more run, behind those of the first
 pub more_written : {W : Type 0} (took : W → List ℕ → W → Type 0) (f g h : Formatter W) (bs run : List ℕ) (k i : ℕ) → i < k
     → run ≡ get_or (first_chunks 32 k bs) i run
-    → HasWritten took f (flat_map two_digits (take (32 * i) bs)) g → HasWritten took g (flat_map two_digits run) h → HasWritten took f (flat_map two_digits (take (32 * (i + 1)) bs)) h
+    → HasWritten took f (flat_map two_digits (take (32 * i) bs)) g → HasWritten took g (flat_map two_digits run) h
+    → HasWritten took f (flat_map two_digits (take (32 * (i + 1)) bs)) h
 more_written took f g h bs run k i within is front back =
     let e = ap (λ l. flat_map two_digits (take (32 * i) bs) ++ flat_map two_digits l) (is ∙ run_at 32 k i bs run within)
     ∙ sym (flat_map-append two_digits (take (32 * i) bs) (take 32 (drop (32 * i) bs)))
@@ -83,7 +86,8 @@ more_written took f g h bs run k i within is front back =
     has_written_of_eq _ _ _ _ _ e (has_written_append _ _ _ _ _ _ front back)
 
 -- the digits of the bytes behind all runs, behind theirs
-pub rest_written : {W : Type 0} (took : W → List ℕ → W → Type 0) (f g h : Formatter W) (bs rest : List ℕ) (k i : ℕ) → (length bs == 0) ≡ false → i ≡ k → rest ≡ drop (k * 32) bs
+pub rest_written : {W : Type 0} (took : W → List ℕ → W → Type 0) (f g h : Formatter W) (bs rest : List ℕ) (k i : ℕ)
+    → (length bs == 0) ≡ false → i ≡ k → rest ≡ drop (k * 32) bs
     → HasWritten took f (flat_map two_digits (take (32 * i) bs)) g → HasWritten took g (flat_map two_digits rest) h → HasWritten took f (hex_bytes bs) h
 rest_written took f g h bs rest k i some all is front back =
     let swap : k * 32 ≡ 32 * i = omega arith in

@@ -146,8 +146,8 @@ impl<'a> fmt::Display for HexBytes<'a> {
     }
 }
 
-/// The number in decimal digits, without leading zeros. This function and the next two are `put_shown` at a type each; their
-/// clauses name the text outright.
+/// The number in decimal digits, without leading zeros. This function and the next two write to the list itself, and may leave
+/// part of a text there where they find no memory; their clauses name the text outright.
 pub fn put_decimal(out: &mut Vec<u8>, number: u64) -> Result<(), AllocError>
     ensures { Puts result out.old.items (decimal number) out.new.items }
 {

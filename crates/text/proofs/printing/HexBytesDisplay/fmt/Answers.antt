@@ -8,10 +8,12 @@ pub loop-run-preserved : goal.loop-run-preserved
 loop-run-preserved g c plain =
     let before = c.loop-run.invariant plain in
     let bs = c.args.self.now.0.now in
-    more_written _ _ _ _ bs _ (length bs / 32) c.loop-run.run-index (search rules) (search rules) before (c.write_pairs.ensures before.plain (ap is_ok c.in_ok-write_pairs.was))
+    more_written _ _ _ _ bs _ (length bs / 32) c.loop-run.run-index (search rules) (search rules) before
+    (c.write_pairs.ensures before.plain (ap is_ok c.in_ok-write_pairs.was))
 
 pub returns-clause-writes : goal.returns-clause-writes
 returns-clause-writes g c plain ok =
     let before = c.loop-run.invariant plain in
     let bs = c.args.self.now.0.now in
-    rest_written _ _ _ _ bs _ (length bs / 32) c.loop-run.run-index (search rules) (search rules) c.as_chunks.ensures.back before (c.write_pairs-2.ensures before.plain ok)
+    rest_written _ _ _ _ bs _ (length bs / 32) c.loop-run.run-index (search rules) (search rules) c.as_chunks.ensures.back before
+    (c.write_pairs-2.ensures before.plain ok)
